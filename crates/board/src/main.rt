@@ -1,4 +1,5 @@
-//! The program: the top call over the standard streams, the words of the command line and the sockets of the loopback.
+//! The program: the top call over the standard streams, the words of the command line and the
+//! sockets of the loopback.
 #![tactic(auto)]
 
 ghost use Rattle.std.specs.Prelude.{◌≡◌};
@@ -16,8 +17,8 @@ use std::alloc::AllocError;
 use std::process::ExitCode;
 use ws_links::WsLinks;
 
-/// Runs the board over the standard streams, the words after the program's name and links without a socket, and ends
-/// with its status.
+/// Runs the board over the standard streams, the words after the program's name and links without a
+/// socket, and ends with its status.
 fn main(rt: HostRuntime) -> ExitCode {
     let mut notes = StdSink::new(rt.stderr());
     let status = match words_and_links(&rt) {

@@ -4,8 +4,8 @@ use libc::{STDOUT_FILENO, fdatasync};
 use std::io;
 use std::io::{ErrorKind, Write};
 
-/// The writer of the standard output. Its flush returns when what was written has reached the disk, and fails where the
-/// standard output is no file on one.
+/// The writer of the standard output. Its flush returns when what was written has reached the disk,
+/// and fails where the standard output is no file on one.
 #[derive(Drop)]
 pub struct Output<W> {
     inner: W,

@@ -8,7 +8,8 @@ use std::env;
 use std::io::ErrorKind;
 use std::rt::Env;
 
-/// The words after the program's name. If one isn't UTF-8 there are none, which no command is asked by.
+/// The words after the program's name. If one isn't UTF-8 there are none, which no command is asked
+/// by.
 pub fn of_command_line<R: Env + AllocGlobal>(rt: &R) -> Result<List<Bytes>, AllocError> {
     match env::args(rt) {
         Ok(args) => after_first(rt.alloc(), args.collect(rt.alloc())?),

@@ -3,7 +3,8 @@
 ghost use Rattle.std.specs.Prelude.{◌≡◌, length, map};
 ghost use Rattle.std.specs.List.{zip};
 
-/// Changes each item in its place, by the value that stands where the item does. It takes no memory.
+/// Changes each item in its place, by the value that stands where the item does. It takes no
+/// memory.
 pub fn change_each<A, B: Drop, F: Fn(&mut A, B)>(items: &mut Vec<A>, values: Vec<B>, change: F)
     requires callable { F.IsAlwaysCallable change }
     requires one_each { length values.items ≡ length items.old.items }

@@ -10,13 +10,15 @@ use Rattle.elem.specs.Order.{HaveDistinctIds}
 use Rattle.board_commands.specs.declared.command.Command.{Command}
 use Rattle.board_commands.specs.declared.command.Command.TheVariants as commands
 
--- The further members of a binding have rising names, none of them `elementId`, and the binding nests at most 100.
+-- The further members of a binding have rising names, none of them `elementId`, and the binding
+-- nests at most 100.
 pub record IsRest (rest : List Member) : Type 0 where
   pub rise : are_rising (names rest) ≡ true
   pub free : list_any (bytes_eq (codes "elementId")) (names rest) ≡ false
   pub nest : AllNest 99 rest
 
--- The value of a command nests at most 100, and so does its binding; the ids of elements that it pastes are distinct.
+-- The value of a command nests at most 100, and so does its binding; the ids of elements that it
+-- pastes are distinct.
 abbrev pub IsWithinLimits : Command → Type 0
 IsWithinLimits (commands.Set id member value) = IsCompact 100 value
 IsWithinLimits (commands.Bind arrow side target rest) = IsRest rest

@@ -6,8 +6,8 @@ use Rattle.elem.specs.Said.{AreElements, HasValidTexts}
 use Rattle.board_commands.specs.declared.command.Command.{Command}
 use Rattle.board_commands.specs.declared.command.Command.TheVariants as commands
 
--- What a command makes new elements of are such, and the texts that it writes into elements are UTF-8, as their types
--- keep.
+-- What a command makes new elements of are such, and the texts that it writes into elements are
+-- UTF-8, as their types keep.
 abbrev pub IsWrittenCommand : Command → Type 0
 IsWrittenCommand (commands.Create element spot) = IsElement element × HasValidTexts element
 IsWrittenCommand (commands.Set id member value) = IsUtf8 member

@@ -105,9 +105,9 @@ pub enum Command {
         ids: List<Text>,
         group: Text,
     },
-    /// What the board shows of these elements is copied under a prefix, the copies one above the other at a place in
-    /// the order. The prefix stands before each id and each group of a copy; copies name each other as their originals
-    /// do.
+    /// What the board shows of these elements is copied under a prefix, the copies one above the
+    /// other at a place in the order. The prefix stands before each id and each group of a copy;
+    /// copies name each other as their originals do.
     Duplicate {
         ids: List<Text>,
         prefix: Text,

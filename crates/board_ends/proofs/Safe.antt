@@ -10,7 +10,8 @@ KeepsSafe-same None = tt
 KeepsSafe-same (Some least) = (least, refl, omega arith)
 
 -- Nor over two calls, over neither of which it does.
-pub KeepsSafe-more : (first middle last : Option ℕ) → KeepsSafe first middle → KeepsSafe middle last → KeepsSafe first last
+pub KeepsSafe-more : (first middle last : Option ℕ) → KeepsSafe first middle → KeepsSafe middle last
+    → KeepsSafe first last
 KeepsSafe-more None middle last kept more = tt
 KeepsSafe-more (Some least) middle last (safe, is, within) more =
     let next = rw is at more in

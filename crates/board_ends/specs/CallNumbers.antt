@@ -1,8 +1,8 @@
 use Rattle.std.specs.Prelude.{ℕ, ◌+◌, ◌-◌, ◌^◌, ◌==◌, nat_lt, if◌then◌else◌, Bool, false, List, Option, Some, None}
 use Rattle.std.specs.List.{list_any}
 
--- Calls that are numbered from 0: the number of the next one, and none beyond the end of a 64-bit number; and the
--- numbers that are listed. This project's own.
+-- Calls that are numbered from 0: the number of the next one, and none beyond the end of a 64-bit
+-- number; and the numbers that are listed. This project's own.
 pub record CallNumbers : Type 0 where
   pub next : Option ℕ
   pub listed : List ℕ

@@ -14,7 +14,8 @@ opening_of Idle = 0
 abbrev pub opened_count : List LinkEvent → ℕ
 opened_count events = sum_by opening_of events
 
--- The event opens no link, or the one with this number. Links are numbered from 0 in the order of their openings.
+-- The event opens no link, or the one with this number. Links are numbered from 0 in the order of
+-- their openings.
 abbrev pub OpensAt : ℕ → LinkEvent → Type 0
 OpensAt count (Opened link) = link ≡ count
 OpensAt count (Text link text) = Unit {0}
@@ -30,7 +31,8 @@ OpensFrom count (event ∷ events) = OpensAt count event × OpensFrom (count + o
 abbrev pub with_last : {X : Type 0} → Option (List X) → X → Option (List X)
 with_last items item = option_map (λ told. told ++ item ∷ []) items
 
--- A send that found its link gone: the number of texts sent before, and the link, at the end of the lost ones, where
--- both are told.
-abbrev pub with_lost : Option (List (ℕ × List ℕ)) → Option (List (ℕ × ℕ)) → ℕ → Option (List (ℕ × ℕ))
+-- A send that found its link gone: the number of texts sent before, and the link, at the end of the
+-- lost ones, where both are told.
+abbrev pub with_lost : Option (List (ℕ × List ℕ)) → Option (List (ℕ × ℕ)) → ℕ
+    → Option (List (ℕ × ℕ))
 with_lost sent lost link = option_and_then (λ texts. with_last lost (length texts, link)) sent

@@ -14,9 +14,10 @@ abbrev pub next_event : List LinkEvent → LinkEvent
 next_event [] = Idle
 next_event (event ∷ coming) = event
 
--- Links over a script: the port, how many calls of listen there were, the events, the pairs of link and text that were
--- sent, for each send whose link was gone the number of texts sent before it and the link, the calls of listen and
--- next, the calls of send, and the counts of faults and of links gone. This project's own.
+-- Links over a script: the port, how many calls of listen there were, the events, the pairs of link
+-- and text that were sent, for each send whose link was gone the number of texts sent before it and
+-- the link, the calls of listen and next, the calls of send, and the counts of faults and of links
+-- gone. This project's own.
 pub record ScriptLinksState : Type 0 where
   pub port : Option ℕ
   pub listens : ℕ

@@ -1,4 +1,5 @@
--- A source and a sink that never fail: their counts of faults are 0, whatever is called. This project's own.
+-- A source and a sink that never fail: their counts of faults are 0, whatever is called. This
+-- project's own.
 use Rattle.std.specs.Prelude.{ℕ, List, Some}
 use Rattle.board_ends.specs.Ends.{SourceEnd, SinkEnd, untold_sink}
 
@@ -11,7 +12,7 @@ pub record SureSourceState : Type 0 where
 abbrev pub sure_source_end : SureSourceState → SourceEnd
 sure_source_end source = record { left = Some source.left; faults = 0 }
 
--- what is seen of a sink that never fails, which takes so many bytes at most at once: it tells no content, and counts
--- no fault
+-- what is seen of a sink that never fails, which takes so many bytes at most at once: it tells no
+-- content, and counts no fault
 abbrev pub sure_sink_end : ℕ → SinkEnd
 sure_sink_end chunk = untold_sink 0

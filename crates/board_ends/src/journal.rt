@@ -33,8 +33,8 @@ impl Model for MemJournal {
 }
 
 impl MemJournal {
-    /// A journal over this sink, of whose bytes none is safe yet. The syncs with these numbers, from 0, fail. It takes
-    /// no memory.
+    /// A journal over this sink, of whose bytes none is safe yet. The syncs with these numbers,
+    /// from 0, fail. It takes no memory.
     pub fn new(sink: MemSink, fails: List<u64>) -> MemJournal
         ensures { result ≡ record { sink = sink; safe = 0; syncs = from_first fails } }
     {
@@ -65,7 +65,8 @@ impl Sink for MemJournal {
     ghost seen = { journal_end };
 
     fn write(&mut self, piece: &[u8]) -> Result<usize, Failed>
-        ensures fails { is_err result ≡ (is_listed self.old.sink.writes || is_full self.old.sink piece.now) }
+        ensures fails { is_err result
+            ≡ (is_listed self.old.sink.writes || is_full self.old.sink piece.now) }
         ensures count { IfOk result (λ n. n ≡ taken_count self.old.sink piece.now) }
         ensures ok { IfOk result (λ n. self.new ≡ record self.old {
           sink = record self.old.sink {
@@ -82,7 +83,8 @@ impl Sink for MemJournal {
 
         ensures bound { IfOk result (λ n. n ≤ length piece.now) }
         ensures some { IfOk result (λ n. 0 < length piece.now → 0 < n) }
-        ensures taken { IfOk result (λ n. Took (journal_end self.old) (journal_end self.new) (take n piece.now)) }
+        ensures taken { IfOk result (λ n. Took (journal_end self.old) (journal_end self.new)
+            (take n piece.now)) }
         ensures failed { OnErr result (Rose self.old.sink.faults self.new.sink.faults) }
         ensures unmoved { OnErr result (Some self.new.sink.held ≡ Some self.old.sink.held) }
         ensures safe { KeepsSafe (journal_end self.old) (journal_end self.new) }

@@ -1,5 +1,5 @@
-//! The ends by which a board meets the outside: sources, sinks and links, over memory, over scripts and over the
-//! system.
+//! The ends by which a board meets the outside: sources, sinks and links, over memory, over scripts
+//! and over the system.
 #![tactic(auto)]
 
 mod calls;

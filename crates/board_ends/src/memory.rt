@@ -28,17 +28,28 @@ impl Model for MemSource {
 
     ghost Value = { MemSourceState };
 
-    ghost view = { λ s. record { left = drop s.given s.bytes; chunk = s.chunk; reads = s.reads; faults = s.faults } };
+    ghost view = { λ s. record {
+      left = drop s.given s.bytes;
+      chunk = s.chunk;
+      reads = s.reads;
+      faults = s.faults;
+    } };
 
     ghost invariant = { λ s. (s.given ≤ length s.bytes) × (1 ≤ s.chunk) };
 }
 
 impl MemSource {
-    /// A source of these bytes, which gives at most `chunk` of them at once. The reads with these numbers, from 0,
-    /// fail. It takes no memory.
+    /// A source of these bytes, which gives at most `chunk` of them at once. The reads with
+    /// these numbers, from 0, fail. It takes no memory.
     pub fn new(bytes: Bytes, chunk: usize, fails: List<u64>) -> MemSource
         requires { 1 ≤ chunk }
-        ensures { result ≡ record { left = bytes; chunk = chunk; reads = from_first fails; faults = 0 } }
+        ensures { result ≡ record {
+          left = bytes;
+          chunk = chunk;
+          reads = from_first fails;
+          faults =
+              0;
+        } }
     {
         MemSource {
             bytes,
@@ -67,8 +78,10 @@ impl Source for MemSource {
         }) }
 
         ensures bound { IfOk result (λ n. n ≤ length buf.new) }
-        ensures given { IfOk result (λ n. Gave (source_end self.old) (source_end self.new) (take n buf.new)) }
-        ensures end { IfOk result (λ n. n ≡ 0 → 0 < length buf.old → IsAtEnd (source_end self.new)) }
+        ensures given { IfOk result (λ n. Gave (source_end self.old) (source_end self.new)
+            (take n buf.new)) }
+        ensures end { IfOk result (λ n. n ≡ 0 → 0 < length buf.old
+            → IsAtEnd (source_end self.new)) }
         ensures failed { OnErr result (Rose self.old.faults self.new.faults) }
         ensures unmoved { OnErr result (Some self.new.left ≡ Some self.old.left) }
         ensures counted { self.old.faults ≤ self.new.faults }
@@ -85,7 +98,8 @@ impl Source for MemSource {
     }
 }
 
-/// Copies the first bytes, at most so many, to the front of the other list as far as it goes, and says how many.
+/// Copies the first bytes, at most so many, to the front of the other list as far as it goes,
+/// and says how many.
 pub(crate) fn copy_front(from: &[u8], to: &mut [u8], most: usize) -> usize
     ensures count { result ≡ min (length to.old) (min most (length from.now)) }
     ensures copied { take result to.new ≡ take result from.now }
@@ -95,7 +109,8 @@ pub(crate) fn copy_front(from: &[u8], to: &mut [u8], most: usize) -> usize
     n
 }
 
-/// A sink that keeps what it takes, and fails at chosen writes and where its room is full. Its bytes are safe at once.
+/// A sink that keeps what it takes, and fails at chosen writes and where its room is full. Its
+/// bytes are safe at once.
 #[derive(Drop)]
 pub struct MemSink {
     held: Vec<u8>,
@@ -119,12 +134,13 @@ impl Model for MemSink {
       faults = s.faults;
     } };
 
-    ghost invariant = { λ s. (vec_len s.held ≤ s.room) × (s.room ≤ vec_capacity s.held) × (1 ≤ s.chunk) };
+    ghost invariant = { λ s. (vec_len s.held ≤ s.room) × (s.room ≤ vec_capacity s.held)
+        × (1 ≤ s.chunk) };
 }
 
 impl MemSink {
-    /// A sink that takes at most `chunk` bytes at once, and `room` bytes in all, for which it takes the memory now.
-    /// The writes with these numbers, from 0, fail.
+    /// A sink that takes at most `chunk` bytes at once, and `room` bytes in all, for which it
+    /// takes the memory now. The writes with these numbers, from 0, fail.
     pub fn new(
         alloc: Global,
         chunk: usize,
@@ -133,7 +149,14 @@ impl MemSink {
     ) -> Result<MemSink, AllocError>
         requires { 1 ≤ chunk }
         ensures { IfOk result (λ sink. sink
-            ≡ record { held = []; chunk = chunk; room = room; writes = from_first fails; faults = 0 }) }
+            ≡ record {
+              held = [];
+              chunk = chunk;
+              room = room;
+              writes = from_first fails;
+              faults =
+                  0;
+            }) }
     {
         Ok(MemSink {
             held: Vec::with_capacity(alloc, room)?,
@@ -177,7 +200,8 @@ impl Sink for MemSink {
 
         ensures bound { IfOk result (λ n. n ≤ length piece.now) }
         ensures some { IfOk result (λ n. 0 < length piece.now → 0 < n) }
-        ensures taken { IfOk result (λ n. Took (sink_end self.old) (sink_end self.new) (take n piece.now)) }
+        ensures taken { IfOk result (λ n. Took (sink_end self.old) (sink_end self.new)
+            (take n piece.now)) }
         ensures failed { OnErr result (Rose self.old.faults self.new.faults) }
         ensures unmoved { OnErr result (Some self.new.held ≡ Some self.old.held) }
         ensures safe { KeepsSafe (sink_end self.old) (sink_end self.new) }

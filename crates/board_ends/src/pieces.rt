@@ -10,8 +10,8 @@ use crate::whole::write_all;
 use board_base::Piece;
 use itoa::Buffer;
 
-/// Writes the pieces one after the other. `Failed` comes only where the sink's count of faults rose; a first part of
-/// the line is out then. It takes no memory.
+/// Writes the pieces one after the other. `Failed` comes only where the sink's count of faults
+/// rose; a first part of the line is out then. It takes no memory.
 pub fn write_pieces<K: Sink>(sink: &mut K, pieces: &[Piece]) -> Result<(), Failed>
     ensures ok { OnOk result (Took (K.seen sink.old) (K.seen sink.new) (line_text pieces.now)) }
     ensures failed { OnErr result (Rose (K.seen sink.old).faults (K.seen sink.new).faults) }

@@ -12,7 +12,8 @@ use board_base::{Bytes, List};
 use std::alloc::{AllocError, Global};
 use std::marker::Model;
 
-/// Events in their order, of which the first ones were given, and how many times nothing happened after the last.
+/// Events in their order, of which the first ones were given, and how many times nothing happened
+/// after the last.
 #[derive(Drop)]
 struct Script {
     events: List<LinkEvent>,
@@ -108,9 +109,10 @@ impl Model for ScriptLinks {
 }
 
 impl ScriptLinks {
-    /// Links that give these events in their order, and `Idle` after the last. Of the calls of `listen` and `next`,
-    /// numbered together from 0, those in `fails` fail; of the calls of `send`, numbered from 0, those in `gone` find
-    /// their link gone. A call that ends for want of memory has no number. It takes no memory.
+    /// Links that give these events in their order, and `Idle` after the last. Of the calls of
+    /// `listen` and `next`, numbered together from 0, those in `fails` fail; of the calls of
+    /// `send`, numbered from 0, those in `gone` find their link gone. A call that ends for want of
+    /// memory has no number. It takes no memory.
     pub fn new(
         alloc: Global,
         events: List<LinkEvent>,
@@ -215,7 +217,8 @@ impl Links for ScriptLinks {
         } }
         ensures after_memory { result ≡ Err LinkError.Memory → self.new ≡ self.old }
 
-        ensures ok { IfOk result (λ event. Some self.new.script.given ≡ with_last (Some self.old.script.given) event) }
+        ensures ok { IfOk result (λ event. Some self.new.script.given
+            ≡ with_last (Some self.old.script.given) event) }
         ensures numbered { IfOk result (λ event. IfSome (Some self.old.script.given)
             (λ events. OpensAt (opened_count events) event)) }
         ensures err { OnErr result (Some self.new.script.given ≡ Some self.old.script.given) }
@@ -255,7 +258,8 @@ impl Links for ScriptLinks {
         } }
         ensures after_memory { result ≡ Err SendError.Memory → self.new ≡ self.old }
 
-        ensures ok { OnOk result (Some self.new.sent ≡ with_last (Some self.old.sent) (link, text.now)) }
+        ensures ok { OnOk result (Some self.new.sent
+            ≡ with_last (Some self.old.sent) (link, text.now)) }
         ensures err { OnErr result (Some self.new.sent ≡ Some self.old.sent) }
         ensures gone { result ≡ Err SendError.Gone → Rose self.old.gone self.new.gone }
         ensures lost { result ≡ Err SendError.Gone → Some self.new.lost

@@ -11,7 +11,8 @@ use std::marker::Model;
 /// How often an interrupted call is tried again.
 const RETRIES: usize = 1000;
 
-/// A source over a reader. It tells no content. A read that is interrupted is tried again at most 1,000 times.
+/// A source over a reader. It tells no content. A read that is interrupted is tried again at most
+/// 1,000 times.
 #[derive(Drop)]
 pub struct StdSource<R> {
     inner: R,
@@ -43,10 +44,13 @@ impl<R: Read> Source for StdSource<R> {
         ensures one_more { OnErr result (self.new ≡ one_more self.old) }
 
         ensures bound { IfOk result (λ n. n ≤ length buf.new) }
-        ensures given { IfOk result (λ n. Gave (untold_source self.old) (untold_source self.new) (take n buf.new)) }
-        ensures end { IfOk result (λ n. n ≡ 0 → 0 < length buf.old → IsAtEnd (untold_source self.new)) }
+        ensures given { IfOk result (λ n. Gave (untold_source self.old) (untold_source self.new)
+            (take n buf.new)) }
+        ensures end { IfOk result (λ n. n ≡ 0 → 0 < length buf.old
+            → IsAtEnd (untold_source self.new)) }
         ensures failed { OnErr result (Rose self.old self.new) }
-        ensures unmoved { OnErr result ((untold_source self.new).left ≡ (untold_source self.old).left) }
+        ensures unmoved { OnErr result ((untold_source self.new).left
+            ≡ (untold_source self.old).left) }
         ensures counted { self.old ≤ self.new }
     {
         let read = read_retrying(&mut self.inner, buf);
@@ -71,8 +75,9 @@ fn read_retrying<R: Read>(inner: &mut R, buf: &mut [u8]) -> Result<usize, Failed
     Err(Failed)
 }
 
-/// A sink over a writer, and a journal through the writer's flush. It tells no content. A call that is interrupted is
-/// tried again at most 1,000 times, and a write that takes no byte of a piece that has one is a failure.
+/// A sink over a writer, and a journal through the writer's flush. It tells no content. A call that
+/// is interrupted is tried again at most 1,000 times, and a write that takes no byte of a piece
+/// that has one is a failure.
 #[derive(Drop)]
 pub struct StdSink<W> {
     inner: W,
@@ -95,8 +100,8 @@ impl<W: Write> StdSink<W> {
         StdSink { inner, faults: 0 }
     }
 
-    /// Flushes the writer. A flush that is interrupted is tried again at most 1,000 times, and no other failed one ever
-    /// is.
+    /// Flushes the writer. A flush that is interrupted is tried again at most 1,000 times, and no
+    /// other failed one ever is.
     pub fn flush(&mut self) -> Result<(), Failed>
         ensures same { OnOk result (self.new ≡ self.old) }
         ensures one_more { OnErr result (self.new ≡ one_more self.old) }
@@ -119,7 +124,8 @@ impl<W: Write> Sink for StdSink<W> {
 
         ensures bound { IfOk result (λ n. n ≤ length piece.now) }
         ensures some { IfOk result (λ n. 0 < length piece.now → 0 < n) }
-        ensures taken { IfOk result (λ n. Took (untold_sink self.old) (untold_sink self.new) (take n piece.now)) }
+        ensures taken { IfOk result (λ n. Took (untold_sink self.old) (untold_sink self.new)
+            (take n piece.now)) }
         ensures failed { OnErr result (Rose self.old self.new) }
         ensures unmoved { OnErr result ((untold_sink self.new).held ≡ (untold_sink self.old).held) }
         ensures safe { KeepsSafe (untold_sink self.old) (untold_sink self.new) }
@@ -134,7 +140,8 @@ impl<W: Write> Sink for StdSink<W> {
     }
 }
 
-/// Writes once, and again where the write was interrupted. To take no byte of a piece that has one is a failure.
+/// Writes once, and again where the write was interrupted. To take no byte of a piece that has one
+/// is a failure.
 fn write_retrying<W: Write>(inner: &mut W, piece: &[u8]) -> Result<usize, Failed>
     ensures bound { IfOk result (λ n. n ≤ length piece.now) }
     ensures some { IfOk result (λ n. 0 < length piece.now → 0 < n) }

@@ -48,13 +48,16 @@ impl Source for SureSource {
 
     fn read(&mut self, buf: &mut [u8]) -> Result<usize, Failed>
         ensures sure { IsOk result }
-        ensures count { IfOk result (λ n. n ≡ min (length buf.old) (min self.old.chunk (length self.old.left))) }
+        ensures count { IfOk result (λ n. n
+            ≡ min (length buf.old) (min self.old.chunk (length self.old.left))) }
         ensures bytes { IfOk result (λ n. take n buf.new ≡ take n self.old.left) }
         ensures ok { IfOk result (λ n. self.new ≡ record self.old { left = drop n self.old.left }) }
 
         ensures bound { IfOk result (λ n. n ≤ length buf.new) }
-        ensures given { IfOk result (λ n. Gave (sure_source_end self.old) (sure_source_end self.new) (take n buf.new)) }
-        ensures end { IfOk result (λ n. n ≡ 0 → 0 < length buf.old → IsAtEnd (sure_source_end self.new)) }
+        ensures given { IfOk result (λ n. Gave (sure_source_end self.old) (sure_source_end self.new)
+            (take n buf.new)) }
+        ensures end { IfOk result (λ n. n ≡ 0 → 0 < length buf.old
+            → IsAtEnd (sure_source_end self.new)) }
         ensures failed { OnErr result (Rose 0 0) }
         ensures unmoved { OnErr result (Some self.new.left ≡ Some self.old.left) }
         ensures counted { 0 ≤ 0 }
@@ -101,9 +104,11 @@ impl Sink for SureSink {
 
         ensures bound { IfOk result (λ n. n ≤ length piece.now) }
         ensures some { IfOk result (λ n. 0 < length piece.now → 0 < n) }
-        ensures taken { IfOk result (λ n. Took (sure_sink_end self.old) (sure_sink_end self.new) (take n piece.now)) }
+        ensures taken { IfOk result (λ n. Took (sure_sink_end self.old) (sure_sink_end self.new)
+            (take n piece.now)) }
         ensures failed { OnErr result (Rose 0 0) }
-        ensures unmoved { OnErr result ((sure_sink_end self.new).held ≡ (sure_sink_end self.old).held) }
+        ensures unmoved { OnErr result ((sure_sink_end self.new).held
+            ≡ (sure_sink_end self.old).held) }
         ensures safe { KeepsSafe (sure_sink_end self.old) (sure_sink_end self.new) }
         ensures safe_held { IsSafeHeld (sure_sink_end self.new) }
         ensures counted { 0 ≤ 0 }

@@ -23,8 +23,9 @@ pub enum ReadError {
     TooLong,
 }
 
-/// All bytes that the source gives, up to its end. It stops at a failure, and at the byte after `limit` bytes.
-/// `Failed` comes only where the source's count of faults rose, `TooLong` exactly where `limit + 1` bytes were given.
+/// All bytes that the source gives, up to its end. It stops at a failure, and at the byte after
+/// `limit` bytes. `Failed` comes only where the source's count of faults rose, `TooLong` exactly
+/// where `limit + 1` bytes were given.
 pub fn read_all<S: Source>(
     alloc: Global,
     source: &mut S,
@@ -37,9 +38,11 @@ pub fn read_all<S: Source>(
     ensures failed { result ≡ Err (Stop.Fault ReadError.Failed)
         → Rose (S.seen source.old).faults (S.seen source.new).faults }
     ensures failed_within { result ≡ Err (Stop.Fault ReadError.Failed)
-        → (some : List ℕ) × (length some ≤ limit) × Gave (S.seen source.old) (S.seen source.new) some }
+        → (some : List ℕ) × (length some ≤ limit)
+        × Gave (S.seen source.old) (S.seen source.new) some }
     ensures too_long { result ≡ Err (Stop.Fault ReadError.TooLong)
-        → (some : List ℕ) × (length some ≡ limit + 1) × Gave (S.seen source.old) (S.seen source.new) some }
+        → (some : List ℕ) × (length some ≡ limit + 1)
+        × Gave (S.seen source.old) (S.seen source.new) some }
     ensures stopped { OnErr result ((some : List ℕ) × (length some ≤ limit + 1)
         × Gave (S.seen source.old) (S.seen source.new) some) }
     ensures counted { (S.seen source.old).faults ≤ (S.seen source.new).faults }
@@ -63,11 +66,13 @@ fn append_next<S: Source>(
 ) -> Result<usize, Stop<ReadError>>
     ensures bound { IfOk result (λ n. n ≤ length piece.new) }
     ensures appended { IfOk result (λ n. all.new.items ≡ all.old.items ++ take n piece.new) }
-    ensures given { IfOk result (λ n. Gave (S.seen source.old) (S.seen source.new) (take n piece.new)) }
+    ensures given { IfOk result (λ n. Gave (S.seen source.old) (S.seen source.new)
+        (take n piece.new)) }
     ensures end { IfOk result (λ n. n ≡ 0 → 0 < length piece.old → IsAtEnd (S.seen source.new)) }
     ensures failed { result ≡ Err (Stop.Fault ReadError.Failed)
         → Rose (S.seen source.old).faults (S.seen source.new).faults }
-    ensures unmoved { result ≡ Err (Stop.Fault ReadError.Failed) → (S.seen source.new).left ≡ (S.seen source.old).left }
+    ensures unmoved { result ≡ Err (Stop.Fault ReadError.Failed)
+        → (S.seen source.new).left ≡ (S.seen source.old).left }
     ensures other { result ≢ Err (Stop.Fault ReadError.TooLong) }
     ensures stopped { OnErr result ((n : ℕ) × (n ≤ length piece.old)
         × Gave (S.seen source.old) (S.seen source.new) (take n piece.new)) }
@@ -89,8 +94,8 @@ fn empty_piece(alloc: Global) -> Result<Vec<u8>, AllocError>
     vec![in alloc; 0; PIECE]
 }
 
-/// Writes all bytes. `Failed` comes only where the sink's count of faults rose; a first part of the bytes is out then.
-/// It takes no memory.
+/// Writes all bytes. `Failed` comes only where the sink's count of faults rose; a first part of
+/// the bytes is out then. It takes no memory.
 pub fn write_all<K: Sink>(sink: &mut K, bytes: &[u8]) -> Result<(), Failed>
     ensures ok { OnOk result (Took (K.seen sink.old) (K.seen sink.new) bytes.now) }
     ensures failed { OnErr result (Rose (K.seen sink.old).faults (K.seen sink.new).faults) }

@@ -13,7 +13,9 @@ use Rattle.board_paste.specs.Pasting.{pasted}
 use Rattle.copies.proofs.CallerLemmas.{copies-distinct, original, copy-named}
 
 -- ---- elements of distinct ids
-apart-from : (id : List ℕ) (xs : List ElementValue) (e : ElementValue) → AllByRecursion (λ y. bytes_eq id y ≡ false) (map (λ (x : ElementValue). x.id) xs) → Contains xs e → bytes_eq id e.id ≡ false
+apart-from : (id : List ℕ) (xs : List ElementValue) (e : ElementValue)
+    → AllByRecursion (λ y. bytes_eq id y ≡ false) (map (λ (x : ElementValue). x.id) xs) → Contains xs e
+    → bytes_eq id e.id ≡ false
 apart-from id [] e apart c = absurd (omega (arith, c.1))
 apart-from id (x ∷ xs) e apart c =
     elim (Contains-cases x xs e c) [
@@ -21,10 +23,14 @@ apart-from id (x ∷ xs) e apart c =
       | inr r ↦ apart-from id xs e apart.1 r
     ]
 
-not-apart : (x e : ElementValue) (xs : List ElementValue) → AllByRecursion (λ y. bytes_eq x.id y ≡ false) (map (λ (y : ElementValue). y.id) xs) → Contains xs e → x.id ≡ e.id → ⊥
-not-apart x e xs apart c same = false≢true (sym (apart-from x.id xs e apart c) ∙ (ap (bytes_eq x.id) (sym same) ∙ bytes_eq-same x.id))
+not-apart : (x e : ElementValue) (xs : List ElementValue)
+    → AllByRecursion (λ y. bytes_eq x.id y ≡ false) (map (λ (y : ElementValue). y.id) xs) → Contains xs e → x.id ≡ e.id
+    → ⊥
+not-apart x e xs apart c same =
+    false≢true (sym (apart-from x.id xs e apart c) ∙ (ap (bytes_eq x.id) (sym same) ∙ bytes_eq-same x.id))
 
-one-each : (xs : List ElementValue) (e other : ElementValue) → HaveDistinctIds xs → Contains xs e → Contains xs other → e.id ≡ other.id → e ≡ other
+one-each : (xs : List ElementValue) (e other : ElementValue) → HaveDistinctIds xs → Contains xs e → Contains xs other
+    → e.id ≡ other.id → e ≡ other
 unfolding IsDistinct
 one-each [] e other d c k same = absurd (omega (arith, c.1))
 one-each (x ∷ xs) e other d c k same =
@@ -40,7 +46,8 @@ one-each (x ∷ xs) e other d c k same =
     ]
 
 -- ---- with other keys
-keyed-from : (es : List ElementValue) (keys : List (List ℕ)) (e : ElementValue) → Contains (keyed es keys) e → (old : ElementValue) × Contains es old × (e.id ≡ old.id)
+keyed-from : (es : List ElementValue) (keys : List (List ℕ)) (e : ElementValue) → Contains (keyed es keys) e
+    → (old : ElementValue) × Contains es old × (e.id ≡ old.id)
 keyed-from [] keys e c = absurd (omega (arith, c.1))
 keyed-from (x ∷ es) [] e c = absurd (omega (arith, c.1))
 keyed-from (x ∷ es) (key ∷ keys) e c =
@@ -49,7 +56,8 @@ keyed-from (x ∷ es) (key ∷ keys) e c =
       | inr r ↦ let k = keyed-from es keys e r in (k.0, Contains-cons x es k.0 k.1, k.2)
     ]
 
-keyed-apart : (id : List ℕ) (es : List ElementValue) (keys : List (List ℕ)) → AllByRecursion (λ y. bytes_eq id y ≡ false) (map (λ (x : ElementValue). x.id) es)
+keyed-apart : (id : List ℕ) (es : List ElementValue) (keys : List (List ℕ))
+    → AllByRecursion (λ y. bytes_eq id y ≡ false) (map (λ (x : ElementValue). x.id) es)
     → AllByRecursion (λ y. bytes_eq id y ≡ false) (map (λ (x : ElementValue). x.id) (keyed es keys))
 keyed-apart id [] keys all = tt
 keyed-apart id (x ∷ es) [] all = tt
@@ -62,10 +70,12 @@ keyed-distinct (x ∷ es) [] d = tt
 keyed-distinct (x ∷ es) (key ∷ keys) d = (keyed-apart x.id es keys d.0, keyed-distinct es keys d.1)
 
 -- ---- new elements of distinct ids beside those that are stored
-none-of : (xs : List ElementValue) (id : List ℕ) → ((e : ElementValue) → Contains xs e → e.id ≢ id) → stored_of xs id ≡ None
+none-of : (xs : List ElementValue) (id : List ℕ) → ((e : ElementValue) → Contains xs e → e.id ≢ id)
+    → stored_of xs id ≡ None
 unfolding stored_of
 none-of xs id others =
-    find-None (is_best xs id) xs (λ e c. ap (λ b. b && is_unbeaten xs e) (of_other id e (λ same. others e c (sym same))))
+    find-None (is_best xs id) xs (λ e c. ap (λ b. b && is_unbeaten xs e)
+    (of_other id e (λ same. others e c (sym same))))
 
 own-of : (xs : List ElementValue) (e : ElementValue) → HaveDistinctIds xs → Contains xs e → stored_of xs e.id ≡ Some e
 own-of xs e d c = go (stored_of xs e.id) refl
@@ -76,7 +86,8 @@ own-of xs e d c = go (stored_of xs e.id) refl
         let best = IsBestOf-stored xs e.id x k in
         k ∙ ap Some (sym (one-each xs e x d c best.taken (same_id e.id x best.named)))
 
-module _ (updates stored more news : List ElementValue) (before : AreStored updates stored) (after : AreStored (updates ++ more) news)
+module _ (updates stored more news : List ElementValue) (before : AreStored updates stored)
+    (after : AreStored (updates ++ more) news)
     (distinct : HaveDistinctIds more) (new : (e : ElementValue) → Contains more e → element_of stored e.id ≡ None) where
   there : (e : ElementValue) → element_of news e.id ≡ Some e → Contains news e
   there e found = (find-Some (has_id e.id) news e found).0
@@ -94,11 +105,14 @@ module _ (updates stored more news : List ElementValue) (before : AreStored upda
   pub added-beside : (e : ElementValue) → Contains more e → Contains news e
   added-beside e c =
       let own = own-of more e distinct c in
-      there e (after.each e.id ∙ (stored-append updates more e.id ∙ ap₂ joined_leader (sym (before.each e.id) ∙ new e c) own))
+      there e (after.each e.id ∙ (stored-append updates more e.id
+      ∙ ap₂ joined_leader (sym (before.each e.id) ∙ new e c) own))
 
 -- ---- a clip's elements
-module _ (updates stored elements news : List ElementValue) (prefix : List ℕ) (before : AreStored updates stored) (after : AreStored (updates ++ pasted stored elements prefix) news)
-    (distinct : HaveDistinctIds elements) (new : (e : ElementValue) → Contains elements e → element_of stored (prefix ++ e.id) ≡ None) where
+module _ (updates stored elements news : List ElementValue) (prefix : List ℕ) (before : AreStored updates stored)
+    (after : AreStored (updates ++ pasted stored elements prefix) news)
+    (distinct : HaveDistinctIds elements) (new : (e : ElementValue) → Contains elements e
+    → element_of stored (prefix ++ e.id) ≡ None) where
   pasted-distinct : HaveDistinctIds (pasted stored elements prefix)
   unfolding pasted
   pasted-distinct = keyed-distinct (copies_of elements prefix) _ (copies-distinct elements prefix distinct)
@@ -108,10 +122,12 @@ module _ (updates stored elements news : List ElementValue) (prefix : List ℕ) 
   pasted-new e c =
       let k = keyed-from (copies_of elements prefix) _ e c in
       let o = original elements prefix k.0 k.1 in
-      ap (element_of stored) (k.2 ∙ (ap (λ (x : ElementValue). x.id) (sym o.2) ∙ copy-named elements prefix o.0)) ∙ new o.0 o.1
+      ap (element_of stored) (k.2 ∙ (ap (λ (x : ElementValue). x.id) (sym o.2) ∙ copy-named elements prefix o.0))
+      ∙ new o.0 o.1
 
   pub pasted-kept : (e : ElementValue) → Contains stored e → Contains news e
   pasted-kept = kept-beside updates stored (pasted stored elements prefix) news before after pasted-distinct pasted-new
 
   pub pasted-added : (e : ElementValue) → Contains (pasted stored elements prefix) e → Contains news e
-  pasted-added = added-beside updates stored (pasted stored elements prefix) news before after pasted-distinct pasted-new
+  pasted-added =
+      added-beside updates stored (pasted stored elements prefix) news before after pasted-distinct pasted-new

@@ -1,5 +1,5 @@
--- A clip that is pasted: its copies stand above all that is shown. That copies are above, and that a stored id refuses
--- a clip, is this project's own.
+-- A clip that is pasted: its copies stand above all that is shown. That copies are above, and that
+-- a stored id refuses a clip, is this project's own.
 use Rattle.std.specs.Prelude.{◌≡◌, ℕ, ◌-◌, List, [], ◌∷◌, ◌++◌, Bool, Option, Some, None, is_some, length, slice_get, option_and_then, if◌then◌else◌}
 use Rattle.frac_keys.specs.Between.{keys_between}
 use Rattle.json_text.specs.Compact.{Member as Pair}
@@ -26,7 +26,8 @@ first_stored stored (e ∷ elements) [] = None
 first_stored stored (e ∷ elements) (place ∷ places) =
     if is_stored stored e then Some place else first_stored stored elements places
 
--- the copies of elements with the keys that they get where they are pasted: above the last key of what is shown
+-- the copies of elements with the keys that they get where they are pasted: above the last key of
+-- what is shown
 unfoldable pub pasted : List ElementValue → List ElementValue → List ℕ → List ElementValue
 pasted stored elements prefix =
     keyed (copies_of elements prefix) (keys_between (last_key (shown (live_elements stored))) None
@@ -38,8 +39,10 @@ pub record IsClipHead (entries : List Pair) (head : Heading) : Type 0 where
   pub app_state : head.app_state ≡ []
   pub files : AreLeastEntries entries head.files
 
--- Wherever the old head is that of some heads, the new one is that of these and of a head that has these files alone.
+-- Wherever the old head is that of some heads, the new one is that of these and of a head that has
+-- these files alone.
 pub record HasJoinedFiles (old : Heading) (files : List Pair) (new : Heading) : Type 0 where
   pub clip : Heading
   pub own : IsClipHead files clip
-  pub joined : (heads : List Heading) → IsJoinedHead heads old → IsJoinedHead (heads ++ clip ∷ []) new
+  pub joined : (heads : List Heading) → IsJoinedHead heads old
+      → IsJoinedHead (heads ++ clip ∷ []) new

@@ -9,7 +9,8 @@ ghost use Rattle.board_paste.specs.Pasting.{first_stored, pasted};
 
 /// No copy's id is stored exactly where no element's id under the prefix is stored, deleted or not.
 pub fn ids_of_copies_are_new()
-    ensures { (stored list : List ElementValue) (prefix places : List ℕ) → length places ≡ length list
+    ensures { (stored list : List ElementValue) (prefix places : List ℕ)
+        → length places ≡ length list
         → (first_stored stored (copies_of list prefix) places ≡ None)
         ↔ ((e : ElementValue) → Contains list e → element_of stored (prefix ++ e.id) ≡ None) }
 {}

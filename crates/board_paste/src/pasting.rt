@@ -24,14 +24,16 @@ use scene_file::{Head, join};
 use std::alloc::{AllocError, Global};
 use view::shown_elements;
 
-/// Why a clip isn't pasted: the id that the copy of the element at this place of its array would have is stored.
+/// Why a clip isn't pasted: the id that the copy of the element at this place of its array would
+/// have is stored.
 #[derive(Clone, Copy, Debug, PartialEq, Eq, Drop)]
 pub struct Exists {
     pub place: u64,
 }
 
-/// Stores copies of a clip's elements, whose keys stand above those of all that is shown, and joins its files to a
-/// head. Where it is refused, and for want of memory, the head and the stored elements are as before.
+/// Stores copies of a clip's elements, whose keys stand above those of all that is shown, and
+/// joins its files to a head. Where it is refused, and for want of memory, the head and the
+/// stored elements are as before.
 pub fn paste(
     alloc: Global,
     head: &mut Head,
@@ -43,14 +45,18 @@ pub fn paste(
     requires files { EntriesNest 126 (pairs clip.now.files) }
 
     // What is stored of updates is then stored of these with the copies at their end.
-    ensures stored { OnOk result ((updates : Items ElementValue) → AreStored updates store.old.elements
-        → AreStored (updates ++ pasted store.old.elements clip.now.elements prefix.now) store.new.elements) }
+    ensures stored { OnOk result ((updates : Items ElementValue)
+        → AreStored updates store.old.elements
+        → AreStored (updates ++ pasted store.old.elements clip.now.elements prefix.now)
+        store.new.elements) }
 
     ensures head { OnOk result (HasJoinedFiles head.old (pairs clip.now.files) head.new) }
     ensures new { OnOk result (first_stored store.old.elements
         (copies_of clip.now.elements prefix.now) clip.now.places ≡ None) }
     ensures exists { (fault : Exists) → result ≡ Err (Stop.Fault fault)
-        → first_stored store.old.elements (copies_of clip.now.elements prefix.now) clip.now.places ≡ Some fault.place }
+        → first_stored store.old.elements (copies_of clip.now.elements prefix.now)
+        clip.now.places
+        ≡ Some fault.place }
     ensures stored_kept { OnErr result (store.new.elements ≡ store.old.elements) }
     ensures head_kept { OnErr result (head.new ≡ head.old) }
 {
@@ -92,7 +98,8 @@ fn keyed_above(
     elements: List<Element>,
 ) -> Result<List<Element>, AllocError>
     ensures { IfOk result (λ new. new ≡ keyed elements
-        (keys_between (last_key (shown (live_elements store.now.elements))) None (length elements))) }
+        (keys_between (last_key (shown (live_elements store.now.elements))) None
+        (length elements))) }
 {
     let shown = shown_elements(alloc, store)?;
     keyed_between(alloc, elements, last_key(&shown), None)

@@ -41,8 +41,8 @@ impl Drop for Act {
     }
 }
 
-/// Appends how many entries can be undone and redone after each act of a list on one replica, and the id and the key of
-/// each element that it shows at the end.
+/// Appends how many entries can be undone and redone after each act of a list on one replica, and
+/// the id and the key of each element that it shows at the end.
 pub fn push_again(alloc: Global, line: &mut Vec<u8>, value: &Raw) -> Result<(), Stop<Text>> {
     let mut replica = Replica::new(alloc);
     push_member_of(line, "told")?;

@@ -1,4 +1,5 @@
-//! Commands that are drawn, and what they give where a replica followed deliveries and where one is made anew.
+//! Commands that are drawn, and what they give where a replica followed deliveries and where one is
+//! made anew.
 
 ghost use Rattle.std.specs.Prelude.{IfOk, IfSome};
 ghost use Rattle.board_commands.specs.Limits.{IsWithinLimits};
@@ -21,8 +22,9 @@ const TIME: u64 = 5;
 
 const NONCE: u64 = 7;
 
-/// Appends whether so many commands, drawn from a seed and made in turn with deliveries of elements with so many ids,
-/// give the same on a replica that follows them as on one made anew of what it stores.
+/// Appends whether so many commands, drawn from a seed and made in turn with deliveries of elements
+/// with so many ids, give the same on a replica that follows them as on one made anew of what it
+/// stores.
 pub fn push_asked(alloc: Global, line: &mut Vec<u8>, value: &Raw) -> Result<(), Stop<Text>> {
     let told = given(shaped(members(alloc, value))?, "member ask")?;
     let seed = given(number_or(&told, "seed", 0), "member seed")?;
@@ -65,7 +67,8 @@ fn ask_all(
     Ok(Some(true))
 }
 
-/// Whether a command gives the same on a replica as on one made anew of what that stores. The replica then stores it.
+/// Whether a command gives the same on a replica as on one made anew of what that stores. The
+/// replica then stores it.
 fn is_same_anew(alloc: Global, replica: &mut Replica, command: &Command) -> Result<bool, AllocError>
     requires { IsWithinLimits command.now }
 {

@@ -11,8 +11,9 @@ use replica::Replica;
 use std::alloc::{AllocError, Global};
 use std::slice;
 
-/// Appends how many elements were taken of as many deliveries of one as the case says, to a replica that was delivered
-/// earlier versions of all; and whether it shows all of them then, as they were delivered last.
+/// Appends how many elements were taken of as many deliveries of one as the case says, to a replica
+/// that was delivered earlier versions of all; and whether it shows all of them then, as they were
+/// delivered last.
 pub fn push_delivered(
     alloc: Global,
     line: &mut Vec<u8>,

@@ -85,8 +85,8 @@ fn push_comparison(line: &mut Vec<u8>, new: &Element, old: &Element) -> Result<(
     push_truth(line, "same_but_stamp", same_but_stamp(new, old))
 }
 
-/// Appends what the difference of two elements makes of a third one, or of two elements what the creation of the first
-/// one makes of the second; and what the inverse makes of that third one.
+/// Appends what the difference of two elements makes of a third one, or of two elements what the
+/// creation of the first one makes of the second; and what the inverse makes of that third one.
 pub fn push_applied(alloc: Global, line: &mut Vec<u8>, value: &Raw) -> Result<(), Stop<Text>> {
     let elements = given(elements_of(alloc, value)?, "member apply")?;
     let Some((now, ends)) = elements.as_slice().split_last() else {

@@ -73,7 +73,8 @@ fn push_end(alloc: Global, line: &mut Vec<u8>, feed: &mut Feed) -> Result<(), Al
     }
 }
 
-/// Appends whether a stream in two pieces, wherever it is cut, gives the same values and fault as scans over all bytes.
+/// Appends whether a stream in two pieces, wherever it is cut, gives the same values and fault as
+/// scans over all bytes.
 pub fn push_cut(alloc: Global, line: &mut Vec<u8>, value: &Raw) -> Result<(), Stop<Text>> {
     let bytes = given(bytes_of(alloc, value)?, "member cut")?;
     push_truth(line, "equal", is_cut_anywhere(alloc, bytes.as_slice())?)?;

@@ -15,7 +15,8 @@ use scene_json::{members, shaped};
 use std::alloc::{AllocError, Global};
 use view::view_of;
 
-/// What is drawn for an element: its version, how many ids there are, and how many of them are named by others.
+/// What is drawn for an element: its version, how many ids there are, and how many of them are
+/// named by others.
 #[derive(Clone, Copy)]
 pub struct Drawing {
     pub version: u64,
@@ -23,8 +24,8 @@ pub struct Drawing {
     pub named: u64,
 }
 
-/// Appends whether the view of a replica is the view of its store made anew, after each of so many deliveries that are
-/// drawn from a seed, of elements with so many ids.
+/// Appends whether the view of a replica is the view of its store made anew, after each of so many
+/// deliveries that are drawn from a seed, of elements with so many ids.
 pub fn push_followed(alloc: Global, line: &mut Vec<u8>, value: &Raw) -> Result<(), Stop<Text>> {
     let told = given(shaped(members(alloc, value))?, "member follow")?;
     let seed = given(number_or(&told, "seed", 0), "member seed")?;
@@ -36,7 +37,8 @@ pub fn push_followed(alloc: Global, line: &mut Vec<u8>, value: &Raw) -> Result<(
     Ok(())
 }
 
-/// Whether the view is the one made anew after each delivery, or nothing where a drawn text is no element.
+/// Whether the view is the one made anew after each delivery, or nothing where a drawn text is no
+/// element.
 fn follow(
     alloc: Global,
     seed: u64,
@@ -118,8 +120,9 @@ pub fn draw_elements(
     Ok(Some(List::from_vec(elements)))
 }
 
-/// Draws an element, whose kind its number tells: one in six is deleted, and one in eight comes late. Of a few keys one
-/// is its index, or none; what it names may be there or not, and be of any kind.
+/// Draws an element, whose kind its number tells: one in six is deleted, and one in eight comes
+/// late. Of a few keys one is its index, or none; what it names may be there or not, and be of any
+/// kind.
 fn draw_element(
     alloc: Global,
     generator: &mut Pcg32,

@@ -103,8 +103,8 @@ pub fn bytes_named(
     }
 }
 
-/// The bytes that a value tells: those of a text; or by a member `hex` any bytes; or by a member `texts` the compact
-/// texts of these values, each followed by a newline.
+/// The bytes that a value tells: those of a text; or by a member `hex` any bytes; or by a member
+/// `texts` the compact texts of these values, each followed by a newline.
 pub fn bytes_of(alloc: Global, value: &Raw) -> Result<Option<Bytes>, AllocError> {
     if let Some(text) = shaped(text_of(alloc, value))? {
         return Ok(Some(Bytes::from_slice(alloc, text.as_bytes())?));

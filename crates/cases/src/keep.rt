@@ -81,7 +81,8 @@ impl Board {
     }
 }
 
-/// Appends the id and the key of each element that a view shows, which has followed the updates of a list by their ids.
+/// Appends the id and the key of each element that a view shows, which has followed the updates of
+/// a list by their ids.
 pub fn push_kept(alloc: Global, line: &mut Vec<u8>, value: &Raw) -> Result<(), Stop<Text>> {
     let updates = given(elements_of(alloc, value)?, "member update")?;
     let mut board = Board::new(alloc);
@@ -93,8 +94,8 @@ pub fn push_kept(alloc: Global, line: &mut Vec<u8>, value: &Raw) -> Result<(), S
     Ok(())
 }
 
-/// Appends the id and the key of each element that a view shows, which has followed the updates of a list by their ids,
-/// and has taken the last one before it was stored.
+/// Appends the id and the key of each element that a view shows, which has followed the updates of
+/// a list by their ids, and has taken the last one before it was stored.
 pub fn push_viewed(alloc: Global, line: &mut Vec<u8>, value: &Raw) -> Result<(), Stop<Text>> {
     let mut updates = given(elements_of(alloc, value)?, "member take")?.into_vec();
     let last = given(updates.pop(), "member take")?;

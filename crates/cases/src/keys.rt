@@ -48,7 +48,8 @@ pub fn push_n_between(
     Ok(())
 }
 
-/// Appends the two ends that some steps lead to: in each the key between them takes the place of the end that the member
+/// Appends the two ends that some steps lead to: in each the key between them takes the place of
+/// the end that the member
 /// `moves` names, or of the low end and the high end in turn.
 pub fn push_walk(
     alloc: Global,
@@ -107,7 +108,8 @@ fn keys_between(alloc: Global, ends: &Ends, n: usize) -> Result<Option<List<Key>
     }
 }
 
-/// The ends that so many steps lead to; in each the low end moves, or the high one, or both in turn.
+/// The ends that so many steps lead to; in each the low end moves, or the high one, or both in
+/// turn.
 fn walked(
     alloc: Global,
     ends: Ends,

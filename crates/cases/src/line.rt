@@ -10,8 +10,8 @@ use json_text::{Raw, Text, push_quote, skip_space};
 use scene_json::{members, push_whole, shaped};
 use std::alloc::{AllocError, Global};
 
-/// A line on each case; `chunk` is how many bytes the ends of a run give and take at once where its case doesn't say.
-/// Behind a text that is no JSON nothing more is read.
+/// A line on each case; `chunk` is how many bytes the ends of a run give and take at once where its
+/// case doesn't say. Behind a text that is no JSON nothing more is read.
 pub fn lines(alloc: Global, cases: &[u8], chunk: u64) -> Result<Bytes, AllocError> {
     let mut lines = Vec::new(alloc);
     let mut rest = cases;

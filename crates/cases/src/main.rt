@@ -1,5 +1,6 @@
-//! A program for tests: each text of the standard input is a case, a run of the top call over memory or a call below
-//! it, and each line of the standard output is what one case was answered with.
+//! A program for tests: each text of the standard input is a case, a run of the top call over
+//! memory or a call below it, and each line of the standard output is what one case was answered
+//! with.
 #![tactic(auto)]
 
 mod again;
@@ -29,8 +30,8 @@ use std::process::ExitCode;
 /// How many bytes the cases have at most.
 const LIMIT: usize = 67108864;
 
-/// Reads the cases, runs each, and writes the lines on them. The first word, if there is one, is how many bytes the
-/// ends of a run give and take at once where its case doesn't say.
+/// Reads the cases, runs each, and writes the lines on them. The first word, if there is one, is
+/// how many bytes the ends of a run give and take at once where its case doesn't say.
 fn main(rt: HostRuntime) -> ExitCode {
     let alloc = rt.alloc();
     let Some(chunk) = words::chunk_asked(&rt) else {

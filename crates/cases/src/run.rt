@@ -40,8 +40,9 @@ impl Drop for Ends {
     }
 }
 
-/// Appends how the run of a case with its chunk ended: its status, output and notes, the port that was listened on, and
-/// what was sent; and where the case asks for it, what is recovered of all that a stop may leave of the output.
+/// Appends how the run of a case with its chunk ended: its status, output and notes, the port that
+/// was listened on, and what was sent; and where the case asks for it, what is recovered of all
+/// that a stop may leave of the output.
 pub fn push_run(
     alloc: Global,
     line: &mut Vec<u8>,

@@ -14,8 +14,8 @@ use std::alloc::{AllocError, Global};
 /// How many bytes the words of a fault have room for.
 const ROOM: usize = 256;
 
-/// Appends the elements of the scene that stands at an offset of some bytes, and the offset after it, or the first
-/// fault there.
+/// Appends the elements of the scene that stands at an offset of some bytes, and the offset after
+/// it, or the first fault there.
 pub fn push_scene(
     alloc: Global,
     line: &mut Vec<u8>,

@@ -19,8 +19,8 @@ const LINKS: u64 = 8;
 /// How many times in a row nothing happens before the room ends.
 const IDLE: u64 = 3;
 
-/// Appends what ended a room that stores nothing at first and is served up to so many events, how many links are joined
-/// then, and what was sent.
+/// Appends what ended a room that stores nothing at first and is served up to so many events, how
+/// many links are joined then, and what was sent.
 pub fn push_served(
     alloc: Global,
     line: &mut Vec<u8>,

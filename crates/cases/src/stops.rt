@@ -13,8 +13,8 @@ const CHUNK: usize = 65536;
 /// How many bytes an output has room for.
 const ROOM: usize = 1000000;
 
-/// Appends for each first part of a journal's bytes that has all safe ones what `recover` writes of it, or its notes:
-/// each answer once, with the least number of bytes from which on it is given.
+/// Appends for each first part of a journal's bytes that has all safe ones what `recover` writes of
+/// it, or its notes: each answer once, with the least number of bytes from which on it is given.
 pub fn push_stops(
     alloc: Global,
     line: &mut Vec<u8>,

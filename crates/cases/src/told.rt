@@ -39,7 +39,8 @@ pub fn push_value(line: &mut Vec<u8>, name: &str, text: &[u8]) -> Result<(), All
     line.extend_from_slice(text)
 }
 
-/// Appends what these bytes are: `{"value":V}` where they are one compact text with this end behind it, else a text, or
+/// Appends what these bytes are: `{"value":V}` where they are one compact text with this end behind
+/// it, else a text, or
 /// `{"hex":TEXT}` where they aren't UTF-8.
 pub fn push_told(
     alloc: Global,

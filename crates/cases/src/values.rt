@@ -16,7 +16,8 @@ use scene_json::{
 };
 use std::alloc::{AllocError, Global};
 
-/// Appends the value that stands in some bytes at the offset `at`, and the offset after it, or the first fault there.
+/// Appends the value that stands in some bytes at the offset `at`, and the offset after it, or the
+/// first fault there.
 pub fn push_scanned(
     alloc: Global,
     line: &mut Vec<u8>,
@@ -55,7 +56,8 @@ pub fn push_pretty(alloc: Global, line: &mut Vec<u8>, value: &Raw) -> Result<(),
     Ok(())
 }
 
-/// Appends what a value is: how deep it nests, and the number, truth, null, text, items or members that it is.
+/// Appends what a value is: how deep it nests, and the number, truth, null, text, items or members
+/// that it is.
 pub fn push_taken_apart(alloc: Global, line: &mut Vec<u8>, value: &Raw) -> Result<(), Stop<Text>> {
     push_number(line, "depth", depth_of(value))?;
     push_scalar(line, value)?;

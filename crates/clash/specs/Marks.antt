@@ -1,4 +1,5 @@
--- Ids, versions and nonces, and where the first element with each stands. Only the type's own facts cite this.
+-- Ids, versions and nonces, and where the first element with each stands. Only the type's own facts
+-- cite this.
 use Rattle.std.specs.Prelude.{◌≡◌, ◌<◌, ℕ, List, Bool, ◌&&◌, ◌==◌, Option, IfSome, bytes_eq, find, length, slice_get, option_and_then}
 use Rattle.std.specs.BTreeMap.{is_at}
 use Rattle.std.specs.Cmp.Lexicographic.{slice_cmp}
@@ -18,7 +19,8 @@ abbrev pub is_marked : Mark → ElementValue → Bool
 is_marked mark e = bytes_eq mark.0 e.id && (mark.1 == e.version && mark.2 == e.nonce)
 
 abbrev pub mark_cmp : Mark → Mark → Ordering
-mark_cmp a b = ordering_then (ordering_then (slice_cmp nat_cmp a.0 b.0) (nat_cmp a.1 b.1)) (nat_cmp a.2 b.2)
+mark_cmp a b =
+    ordering_then (ordering_then (slice_cmp nat_cmp a.0 b.0) (nat_cmp a.1 b.1)) (nat_cmp a.2 b.2)
 
 -- the place that is listed for a mark
 abbrev pub place_of : List (Mark × ℕ) → Mark → Option ℕ
@@ -27,4 +29,5 @@ place_of places mark = lookup (is_at (mark_cmp mark)) places
 -- For each mark the place of the first element that has it is listed, if there is one.
 pub record AreListed (firsts : List ElementValue) (places : List (Mark × ℕ)) : Type 0 where
   pub within : (mark : Mark) → IfSome (place_of places mark) (λ i. i < length firsts)
-  pub each : (mark : Mark) → option_and_then (slice_get firsts) (place_of places mark) ≡ find (is_marked mark) firsts
+  pub each : (mark : Mark) → option_and_then (slice_get firsts) (place_of places mark)
+      ≡ find (is_marked mark) firsts

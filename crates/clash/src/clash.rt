@@ -11,7 +11,8 @@ use std::marker::Model;
 
 /// The first noted element of each id, version and nonce, in the order of noting.
 ///
-/// They are kept in this order, and found by an ordered map from id, version and nonce to their places.
+/// They are kept in this order, and found by an ordered map from id, version and nonce to their
+/// places.
 #[derive(Drop)]
 pub struct Clash {
     firsts: Vec<Element>,
@@ -41,8 +42,8 @@ impl Clash {
         }
     }
 
-    /// Notes the element, and tells whether the first noted one of its id, version and nonce isn't the same. For want
-    /// of memory nothing is noted.
+    /// Notes the element, and tells whether the first noted one of its id, version and nonce isn't
+    /// the same. For want of memory nothing is noted.
     pub fn note(&mut self, e: &Element) -> Result<bool, AllocError>
         ensures clash { IfOk result (λ clashes. MatchBool clashes (HasClash self.old e.now)
             (IsLikeFirst self.old e.now)) }

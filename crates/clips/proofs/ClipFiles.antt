@@ -10,14 +10,19 @@ use Rattle.elem_read.proofs.CallerLemmas.{found-has, object-nests}
 use Rattle.scene_file.specs.Reading.{value_unless_null, HasMembers}
 
 -- what is given is found
-given-found : (name : List ℕ) (members : List Pair) (value : List ℕ) → value_unless_null name members ≡ Some value → value_at name members ≡ Some value
+given-found : (name : List ℕ) (members : List Pair) (value : List ℕ) → value_unless_null name members ≡ Some value
+    → value_at name members ≡ Some value
 given-found name members value e =
-    elim (value_at name members) as (λ (found : Option (List ℕ)). elim found [ None ↦ None | Some v ↦ cond (bytes_eq v null_word) None (Some v) ] ≡ Some value → found ≡ Some value) [
+    elim (value_at name members) as (λ (found : Option (List ℕ)). elim found [
+      | None ↦ None
+      | Some v ↦ cond (bytes_eq v null_word) None (Some v)
+    ] ≡ Some value → found ≡ Some value) [
       | None ↦ λ none. none
-      | Some v ↦ λ here. elim (bytes_eq v null_word) as (λ (b : Bool). cond b None (Some v) ≡ Some value → Some v ≡ Some value) [
-        | true ↦ λ none. cc
-        | false ↦ λ is. is
-      ] here
+      | Some v ↦ λ here. elim (bytes_eq v null_word) as (λ (b : Bool). cond b None (Some v) ≡ Some value
+          → Some v ≡ Some value) [
+            | true ↦ λ none. cc
+            | false ↦ λ is. is
+          ] here
     ] e
 
 nothing : AreMembers 126 []
@@ -25,9 +30,11 @@ unfolding IsDistinct
 nothing = record { named = tt; valued = tt; distinct = tt }
 
 -- what is given in an object nests less deep
-pub nests-given : (name : List ℕ) (members others : List Pair) → AreMembers 127 members → HasMembers (value_unless_null name members) others → AreMembers 126 others
+pub nests-given : (name : List ℕ) (members others : List Pair) → AreMembers 127 members
+    → HasMembers (value_unless_null name members) others → AreMembers 126 others
 nests-given name members others are has =
-    elim (value_unless_null name members) as (λ (found : Option (List ℕ)). value_unless_null name members ≡ found → HasMembers found others → AreMembers 126 others) [
+    elim (value_unless_null name members) as (λ (found : Option (List ℕ)). value_unless_null name members ≡ found
+    → HasMembers found others → AreMembers 126 others) [
       | None ↦ λ e none. subst (AreMembers 126) (sym none) nothing
       | Some value ↦ λ e object.
           object-nests 127 value others (lit≤ tt) (lit≤ tt)

@@ -44,10 +44,13 @@ pairs-once (x ∷ xs) (y ∷ ys) e =
 pub clip-once : (text : List ℕ) (clip other : Clip) → IsClipOf text clip → IsClipOf text other → clip ≡ other
 clip-once text clip other one two =
     let members = members-once text two.members one.members two.object one.object in
-    let values = items-once (value_unless_null (codes "elements") one.members) two.values one.values (subst (λ ms. HasItems (value_unless_null (codes "elements") ms) two.values) members two.items) one.items in
+    let values = items-once (value_unless_null (codes "elements") one.members) two.values one.values
+    (subst (λ ms. HasItems (value_unless_null (codes "elements") ms) two.values) members two.items) one.items in
     let files = pairs-once clip.files other.files
-    (files-once (value_unless_null (codes "files") one.members) (pairs clip.files) (pairs other.files) one.files (subst (λ ms. HasMembers (value_unless_null (codes "files") ms) (pairs other.files)) members two.files)) in
-    let placed = placed-once 0 one.values one.placed two.placed one.read (subst (λ vs. AreReadFrom 0 vs two.placed) values two.read) in
+    (files-once (value_unless_null (codes "files") one.members) (pairs clip.files) (pairs other.files) one.files
+    (subst (λ ms. HasMembers (value_unless_null (codes "files") ms) (pairs other.files)) members two.files)) in
+    let placed = placed-once 0 one.values one.placed two.placed one.read
+    (subst (λ vs. AreReadFrom 0 vs two.placed) values two.read) in
     let elements = one.elements ∙ (ap (λ ps. elements_in (live_in ps)) placed ∙ sym two.elements) in
     let places = one.places ∙ (ap (λ ps. places_in (live_in ps)) placed ∙ sym two.places) in
     λ i. record { elements = elements i; places = places i; files = files i }
@@ -55,8 +58,10 @@ clip-once text clip other one two =
 -- ---- faults
 -- the questions in their order
 data Ending (values : List (List ℕ)) (fault : ClipFault) : Type 0 where
-  faulty : (place : ℕ) (why : ElemFault) → fault ≡ Element place why → IsFirstFaulty values place why → Ending values fault
-  repeated : (place : ℕ) (placed : List Placed) → fault ≡ Repeated place → AreReadFrom 0 values placed → first_repeat (live_in placed) ≡ Some place → Ending values fault
+  faulty : (place : ℕ) (why : ElemFault) → fault ≡ Element place why → IsFirstFaulty values place why
+      → Ending values fault
+  repeated : (place : ℕ) (placed : List Placed) → fault ≡ Repeated place → AreReadFrom 0 values placed
+      → first_repeat (live_in placed) ≡ Some place → Ending values fault
 
 abbrev HasSomeItems : List Pair → Type 0
 HasSomeItems members = (values : List (List ℕ)) × HasItems (value_unless_null (codes "elements") members) values
@@ -65,7 +70,8 @@ abbrev HasSomeFiles : List Pair → Type 0
 HasSomeFiles members = (files : List Pair) × HasMembers (value_unless_null (codes "files") members) files
 
 abbrev EndsIn : List Pair → ClipFault → Type 0
-EndsIn members fault = (values : List (List ℕ)) × HasItems (value_unless_null (codes "elements") members) values × Ending values fault
+EndsIn members fault =
+    (values : List (List ℕ)) × HasItems (value_unless_null (codes "elements") members) values × Ending values fault
 
 abbrev Third : List Pair → ClipFault → Type 0
 Third members fault = Asked (HasSomeFiles members) Files (EndsIn members) fault
@@ -94,17 +100,24 @@ of-text text Files (ms, vs, w, lacks) =
 of-text text (Element place why) (ms, vs, w, has, is) =
     yes (ms, w.object) (ms, w.object, yes w.kind (yes (vs, w.items) (yes has (vs, w.items, faulty place why refl is))))
 of-text text (Repeated place) (ms, vs, w, has, (placed, read, again)) =
-    yes (ms, w.object) (ms, w.object, yes w.kind (yes (vs, w.items) (yes has (vs, w.items, repeated place placed refl read again))))
+    yes (ms, w.object) (
+      ms,
+      w.object,
+      yes w.kind (yes (vs, w.items) (yes has (vs, w.items, repeated place placed refl read again))),
+    )
 
-ending-once : (values : List (List ℕ)) (fault other : ClipFault) → Ending values fault → Ending values other → fault ≡ other
+ending-once : (values : List (List ℕ)) (fault other : ClipFault) → Ending values fault → Ending values other
+    → fault ≡ other
 ending-once values fault other (faulty place why e is) (faulty place' why' f are) =
     let both = faulty-once values place place' why why' is are in
     e ∙ (ap₂ element both.0 both.1 ∙ sym f)
   where
     element : ℕ → ElemFault → ClipFault
     element p w = Element p w
-ending-once values fault other (faulty place why e is) (repeated place' placed f read again) = absurd (placed-faultless values placed place why read is)
-ending-once values fault other (repeated place placed e read again) (faulty place' why f is) = absurd (placed-faultless values placed place' why read is)
+ending-once values fault other (faulty place why e is) (repeated place' placed f read again) =
+    absurd (placed-faultless values placed place why read is)
+ending-once values fault other (repeated place placed e read again) (faulty place' why f is) =
+    absurd (placed-faultless values placed place' why read is)
 ending-once values fault other (repeated place placed e read again) (repeated place' placed' f read' again') =
     let same = placed-once 0 values placed placed' read read' in
     e ∙ (ap repeat (same_Some place place' (sym again ∙ (ap (λ ps. first_repeat (live_in ps)) same ∙ again'))) ∙ sym f)
@@ -112,7 +125,8 @@ ending-once values fault other (repeated place placed e read again) (repeated pl
     repeat : ℕ → ClipFault
     repeat p = Repeated p
 
-ends-once : (members : List Pair) (fault other : ClipFault) → EndsIn members fault → EndsIn members other → fault ≡ other
+ends-once : (members : List Pair) (fault other : ClipFault) → EndsIn members fault → EndsIn members other
+    → fault ≡ other
 ends-once members fault other one two =
     let values = items-once (value_unless_null (codes "elements") members) two.0 one.0 two.1 one.1 in
     ending-once one.0 fault other one.2 (subst (λ vs. Ending vs other) values two.2)
@@ -123,7 +137,8 @@ first-once members fault other =
     (asked-once (HasSomeItems members) Elements (Third members) fault other
     (asked-once (HasSomeFiles members) Files (EndsIn members) fault other (ends-once members fault other)))
 
-pub fault-once : (text : List ℕ) (fault other : ClipFault) → IsClipFault text fault → IsClipFault text other → fault ≡ other
+pub fault-once : (text : List ℕ) (fault other : ClipFault) → IsClipFault text fault → IsClipFault text other
+    → fault ≡ other
 fault-once text fault other one two =
     asked-once (HasObject text) NotObject (OfObject text) fault other
     (λ a b. first-once a.0 fault other a.2 (subst (λ ms. First ms other) (members-once text b.0 a.0 b.1 a.1) b.2))
@@ -139,13 +154,17 @@ module _ (text : List ℕ) (clip : Clip) (is : IsClipOf text clip) where
 
   no-end : (fault : ClipFault) → EndsIn is.members fault → ⊥
   no-end fault ends =
-      no-ending fault (subst (λ vs. Ending vs fault) (items-once (value_unless_null (codes "elements") is.members) ends.0 is.values ends.1 is.items) ends.2)
+      no-ending fault (subst (λ vs. Ending vs fault) (items-once (value_unless_null (codes "elements") is.members)
+      ends.0 is.values ends.1 is.items) ends.2)
 
   no-first : (fault : ClipFault) → First is.members fault → ⊥
   no-first fault =
       asked-none (IsClipboard is.members) NotClip (Second is.members) fault is.kind
       (asked-none (HasSomeItems is.members) Elements (Third is.members) fault (is.values, is.items)
-      (asked-none (HasSomeFiles is.members) Files (EndsIn is.members) fault (pairs clip.files, is.files) (no-end fault)))
+      (asked-none (HasSomeFiles is.members) Files (EndsIn is.members) fault (
+        pairs clip.files,
+        is.files,
+      ) (no-end fault)))
 
   pub clip-faultless : (fault : ClipFault) → IsClipFault text fault → ⊥
   clip-faultless fault f =

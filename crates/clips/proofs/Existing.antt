@@ -20,7 +20,8 @@ use Rattle.clips.proofs.PlacedReading.{placed-of}
 abbrev Told : List ℕ → Type 0
 Told text = ((clip : Clip) × IsClipOf text clip) ⊎ ((fault : ClipFault) × IsClipFault text fault)
 
-module _ (text : List ℕ) (members : List Pair) (are : AreMembers 127 members) (object : IsObject text members) (kind : IsClipboard members)
+module _ (text : List ℕ) (members : List Pair) (are : AreMembers 127 members) (object : IsObject text members)
+    (kind : IsClipboard members)
     (values : List (List ℕ)) (items : HasItems (value_unless_null (codes "elements") members) values)
     (files : List Pair) (table : HasMembers (value_unless_null (codes "files") members) files) where
   is-with : IsClipWith text members values
@@ -46,29 +47,38 @@ module _ (text : List ℕ) (members : List Pair) (are : AreMembers 127 members) 
           places = refl;
         },
       )
-      by (Some place) repeated = inr (Repeated place, (members, values, is-with, (files, table), (placed, read, repeated)))
+      by (Some place) repeated =
+          inr (Repeated place, (members, values, is-with, (files, table), (placed, read, repeated)))
 
   with-elements : Told text
-  with-elements = elim (read-or-faulty values (items-compact (value_unless_null (codes "elements") members) values items)) [
-    | inl (elements, read) ↦ let placed = placed-of 0 values elements read in with-placed placed.0 placed.1
-    | inr (place, fault, faulty) ↦ inr (Element place fault, (members, values, is-with, (files, table), faulty))
-  ]
+  with-elements =
+      elim (read-or-faulty values (items-compact (value_unless_null (codes "elements") members) values items)) [
+        | inl (elements, read) ↦ let placed = placed-of 0 values elements read in with-placed placed.0 placed.1
+        | inr (place, fault, faulty) ↦ inr (Element place fault, (members, values, is-with, (files, table), faulty))
+      ]
 
-pub clip-or-fault : (text : List ℕ) → IsCompact 128 text → ((clip : Clip) × IsClipOf text clip) ⊎ ((fault : ClipFault) × IsClipFault text fault)
+pub clip-or-fault : (text : List ℕ) → IsCompact 128 text → ((clip : Clip) × IsClipOf text clip)
+    ⊎ ((fault : ClipFault) × IsClipFault text fault)
 clip-or-fault text is = by (object-or-not text is)
   where
     parts : (members : List Pair) → AreMembers 127 members → IsObject text members → IsClipboard members
-        → Decided (HasItems (value_unless_null (codes "elements") members)) → Decided (HasMembers (value_unless_null (codes "files") members)) → Told text
+        → Decided (HasItems (value_unless_null (codes "elements") members))
+        → Decided (HasMembers (value_unless_null (codes "files") members)) → Told text
     parts members are object kind (inr none) entries = inr (Elements, (members, object, kind, none))
-    parts members are object kind (inl (values, items)) (inr none) = inr (Files, (members, values, record { object = object; kind = kind; items = items }, none))
-    parts members are object kind (inl (values, items)) (inl (files, table)) = with-elements text members are object kind values items files table
+    parts members are object kind (inl (values, items)) (inr none) =
+        inr (Files, (members, values, record { object = object; kind = kind; items = items }, none))
+    parts members are object kind (inl (values, items)) (inl (files, table)) =
+        with-elements text members are object kind values items files table
 
-    by : ((members : List Pair) × AreMembers 127 members × (text ≡ object_text members)) ⊎ ((members : List Pair) → text ≢ object_text members) → Told text
+    by : ((members : List Pair) × AreMembers 127 members × (text ≡ object_text members))
+        ⊎ ((members : List Pair) → text ≢ object_text members) → Told text
     by (inr none) = inr (NotObject, λ members object. none members object.spelled)
     by (inl (members, are, e)) =
         let object : IsObject text members = record { are_members = are; spelled = e } in
-        elim (is-text (value_at (codes "type") members) (codes "excalidraw/clipboard") (fits-in 127 members (lit≤ tt) are (codes "type"))) [
+        elim (is-text (value_at (codes "type") members) (codes "excalidraw/clipboard")
+        (fits-in 127 members (lit≤ tt) are (codes "type"))) [
           | inr none ↦ inr (NotClip, (members, object, none))
-          | inl kind ↦ parts members are object kind (items-or-not (value_unless_null (codes "elements") members) (fits-given (codes "elements") members are))
+          | inl kind ↦ parts members are object kind (items-or-not (value_unless_null (codes "elements") members)
+              (fits-given (codes "elements") members are))
               (members-or-not (value_unless_null (codes "files") members) (fits-given (codes "files") members are))
         ]

@@ -15,9 +15,11 @@ use Rattle.scene_file.specs.Reading.{value_unless_null, HasItems, HasMembers}
 
 pub fits-given : (name : List ℕ) (members : List Pair) → AreMembers 127 members → Fits (value_unless_null name members)
 fits-given name members are =
-    elim (value_at name members) as (λ (found : Option (List ℕ)). Fits found → Fits (elim found [ None ↦ None | Some value ↦ if bytes_eq value null_word then None else Some value ])) [
+    elim (value_at name members) as (λ (found : Option (List ℕ)). Fits found
+    → Fits (elim found [ None ↦ None | Some value ↦ if bytes_eq value null_word then None else Some value ])) [
       | None ↦ λ fits. tt
-      | Some value ↦ λ fits. elim (bytes_eq value null_word) as (λ (b : Bool). Fits (if b then None else Some value)) [ true ↦ tt | false ↦ fits ]
+      | Some value ↦ λ fits. elim (bytes_eq value null_word) as (λ (b : Bool). Fits (if b then None else Some value))
+          [ true ↦ tt | false ↦ fits ]
     ] (fits-in 127 members (lit≤ tt) are name)
 
 pub items-or-not : (found : Option (List ℕ)) → Fits found → Decided (HasItems found)
@@ -34,7 +36,8 @@ members-or-not (Some value) fits = elim (object-or-not value fits) [
   | inr none ↦ inr (λ members has. none members has.spelled)
 ]
 
-pub items-compact : (found : Option (List ℕ)) (values : List (List ℕ)) → HasItems found values → AllByRecursion (IsCompact 127) values
+pub items-compact : (found : Option (List ℕ)) (values : List (List ℕ)) → HasItems found values
+    → AllByRecursion (IsCompact 127) values
 items-compact None values none = subst (AllByRecursion (IsCompact 127)) (sym none) tt
 items-compact (Some value) values has = has.0
 
@@ -45,5 +48,6 @@ is-text found wanted fits = by (text-or-not found fits)
     by (inr none) = inr (λ is. none wanted is)
     by (inl (text, is)) = elim (cases_Bool (bytes_eq text wanted)) [
       | inl e ↦ inl (subst (IsText found) (bytes_eq-true text wanted e) is)
-      | inr e ↦ inr (λ also. both_ways (bytes_eq text wanted) e (ap (λ t. bytes_eq t wanted) (text-once found text wanted is also) ∙ bytes_eq-same wanted))
+      | inr e ↦ inr (λ also. both_ways (bytes_eq text wanted) e
+          (ap (λ t. bytes_eq t wanted) (text-once found text wanted is also) ∙ bytes_eq-same wanted))
     ]

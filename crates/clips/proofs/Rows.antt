@@ -23,6 +23,7 @@ box id = record {
   rest = [];
 }
 
-repeated : first_repeat (record { place = 2; element = box (codes "b") } ∷ record { place = 5; element = box (codes "w") }
+repeated : first_repeat (record { place = 2; element = box (codes "b") }
+    ∷ record { place = 5; element = box (codes "w") }
     ∷ record { place = 6; element = box (codes "b") } ∷ []) ≡ Some 6
 repeated = refl

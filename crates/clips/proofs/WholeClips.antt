@@ -16,7 +16,8 @@ clip-distinct text clip is = subst HaveDistinctIds (sym is.elements) ((repeat-no
 
 pub clip-whole : (text : List ℕ) (clip : Clip) → IsClipOf text clip → All IsWholeElement clip.elements
 clip-whole text clip is =
-    subst (All IsWholeElement) (sym is.elements) (live-all IsWholeElement is.placed (placed-whole is.values is.placed is.read))
+    subst (All IsWholeElement) (sym is.elements)
+    (live-all IsWholeElement is.placed (placed-whole is.values is.placed is.read))
 
 pub clip-files : (text : List ℕ) (clip : Clip) → IsClipOf text clip → AreMembers 126 (pairs clip.files)
 clip-files text clip is = nests-given (codes "files") is.members (pairs clip.files) is.object.are_members is.files

@@ -1,5 +1,5 @@
--- What a clip's text says, and its first fault. After Excalidraw's clipboard; which forms are accepted, and the order
--- of the faults, is this project's own.
+-- What a clip's text says, and its first fault. After Excalidraw's clipboard; which forms are
+-- accepted, and the order of the faults, is this project's own.
 use Rattle.std.specs.Prelude.{◌≡◌, ℕ, List, Some, None, not, filter, codes}
 use Rattle.json_text.specs.Compact.{Member as Pair}
 use Rattle.json_text.specs.Members.{pairs}
@@ -48,11 +48,13 @@ pub record AreLiveOf (values : List (List ℕ)) (live : List Placed) : Type 0 wh
   pub live_is : live ≡ live_in placed
   pub distinct : first_repeat (live_in placed) ≡ None
 
--- the first fault among the elements: one has a fault, or one that isn't deleted has the id of an earlier such one
+-- the first fault among the elements: one has a fault, or one that isn't deleted has the id of an
+-- earlier such one
 abbrev pub IsElementsFault : List (List ℕ) → ClipFault → Type 0
 IsElementsFault values (Element place fault) = IsFirstFaulty values place fault
 IsElementsFault values (Repeated place) =
-    (placed : List Placed) × AreReadFrom 0 values placed × (first_repeat (live_in placed) ≡ Some place)
+    (placed : List Placed) × AreReadFrom 0 values placed
+    × (first_repeat (live_in placed) ≡ Some place)
 IsElementsFault values other = ⊥
 
 -- The first fault of a compact text that is no clip's, in the order in which the faults are listed.
@@ -61,7 +63,8 @@ IsClipFault text NotObject = (members : List Pair) → IsObject text members →
 IsClipFault text NotClip = (members : List Pair) × IsObject text members × (IsClipboard members → ⊥)
 IsClipFault text Elements =
     (members : List Pair) × IsObject text members × IsClipboard members
-    × ((values : List (List ℕ)) → HasItems (value_unless_null (codes "elements") members) values → ⊥)
+    × ((values : List (List ℕ)) → HasItems (value_unless_null (codes "elements") members) values
+    → ⊥)
 IsClipFault text Files =
     (members : List Pair) × (values : List (List ℕ)) × IsClipWith text members values
     × ((files : List Pair) → HasMembers (value_unless_null (codes "files") members) files → ⊥)

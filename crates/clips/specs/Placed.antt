@@ -13,15 +13,18 @@ elements_in placed = map (λ (p : Placed). p.element) placed
 abbrev pub places_in : List Placed → List ℕ
 places_in placed = map (λ (p : Placed). p.place) placed
 
--- Each value is read as an element at its place, of which the first is given; one of type `selection` is dropped.
+-- Each value is read as an element at its place, of which the first is given; one of type
+-- `selection` is dropped.
 abbrev pub AreReadFrom : ℕ → List (List ℕ) → List Placed → Type 0
 AreReadFrom place [] placed = placed ≡ []
 AreReadFrom place (value ∷ values) placed =
     (IsSelection value × AreReadFrom (suc place) values placed)
-    ⊎ ((p : Placed) × (others : List Placed) × (placed ≡ p ∷ others) × (p.place ≡ place) × IsElementIn value p.element
+    ⊎ ((p : Placed) × (others : List Placed) × (placed ≡ p ∷ others) × (p.place ≡ place)
+    × IsElementIn value p.element
     × AreReadFrom (suc place) values others)
 
--- The place of the first of these elements that has the id of one before it, or of one that was seen before them.
+-- The place of the first of these elements that has the id of one before it, or of one that was
+-- seen before them.
 abbrev pub repeat_after : List ElementValue → List Placed → Option ℕ
 repeat_after seen [] = None
 repeat_after seen (p ∷ placed) = if is_among seen p.element.id then Some p.place else repeat_after

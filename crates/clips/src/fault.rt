@@ -18,9 +18,11 @@ pub enum ClipFault {
     Elements,
     /// `files` is neither null nor an object.
     Files,
-    /// The element at this place of the array, counted from 0, is the first with a fault, and has this one.
+    /// The element at this place of the array, counted from 0, is the first with a fault, and has
+    /// this one.
     Element(u64, ElemFault),
-    /// The live element at this place of the array is the first that has the id of an earlier live one.
+    /// The live element at this place of the array is the first that has the id of an earlier live
+    /// one.
     Repeated(u64),
 }
 

@@ -20,14 +20,16 @@ fn given<'a>(members: &'a List<Member>, name: &str) -> Option<&'a Raw>
     }
 }
 
-/// The items of the array that is given under a name, none where it is missing. `None` where it is no array.
+/// The items of the array that is given under a name, none where it is missing. `None` where it is
+/// no array.
 pub(crate) fn items_given(
     alloc: Global,
     from: &List<Member>,
     name: &str,
 ) -> Result<Option<List<Raw>>, AllocError>
     ensures { IfOk result (λ found. MatchOption found
-        ((values : Items (Items ℕ)) → HasItems (value_unless_null name.now (pairs from.now)) values → ⊥)
+        ((values : Items (Items ℕ)) → HasItems (value_unless_null name.now (pairs from.now)) values
+        → ⊥)
         (HasItems (value_unless_null name.now (pairs from.now)))) }
 {
     match given(from, name) {
@@ -36,14 +38,16 @@ pub(crate) fn items_given(
     }
 }
 
-/// The members of the object that is given under a name, none where it is missing. `None` where it is no object.
+/// The members of the object that is given under a name, none where it is missing. `None` where it
+/// is no object.
 pub(crate) fn members_given(
     alloc: Global,
     from: &List<Member>,
     name: &str,
 ) -> Result<Option<List<Member>>, AllocError>
     ensures { IfOk result (λ found. MatchOption found
-        ((others : Items Pair) → HasMembers (value_unless_null name.now (pairs from.now)) others → ⊥)
+        ((others : Items Pair) → HasMembers (value_unless_null name.now (pairs from.now)) others
+        → ⊥)
         (λ some. HasMembers (value_unless_null name.now (pairs from.now)) (pairs some))) }
 {
     match given(from, name) {

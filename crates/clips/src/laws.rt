@@ -15,10 +15,12 @@ ghost use Rattle.clips.specs.declared.fault.ClipFault.{ClipFault};
 
 /// A text is that of one clip at most, or has one first fault.
 pub fn clip_is_unique()
-    ensures once { (text : List ℕ) (clip other : Clip) → IsClipOf text clip → IsClipOf text other → clip ≡ other }
+    ensures once { (text : List ℕ) (clip other : Clip) → IsClipOf text clip → IsClipOf text other
+        → clip ≡ other }
     ensures fault { (text : List ℕ) (fault other : ClipFault) → IsClipFault text fault
         → IsClipFault text other → fault ≡ other }
-    ensures none { (text : List ℕ) (clip : Clip) (fault : ClipFault) → IsClipOf text clip → IsClipFault text fault → ⊥ }
+    ensures none { (text : List ℕ) (clip : Clip) (fault : ClipFault) → IsClipOf text clip
+        → IsClipFault text fault → ⊥ }
 {}
 
 /// A text is that of a clip, or has a first fault.
@@ -27,10 +29,13 @@ pub fn clip_or_fault_exists()
         → ((clip : Clip) × IsClipOf text clip) ⊎ ((fault : ClipFault) × IsClipFault text fault) }
 {}
 
-/// No element has the id of an earlier one exactly where the ids are distinct, and else the first that has is told.
+/// No element has the id of an earlier one exactly where the ids are distinct, and else the first
+/// that has is told.
 pub fn repeats_are_told()
-    ensures none { (placed : List Placed) → (first_repeat placed ≡ None) ↔ HaveDistinctIds (elements_in placed) }
-    ensures first { (placed : List Placed) (place : ℕ) → first_repeat placed ≡ Some place → IsFirstRepeat placed place }
+    ensures none { (placed : List Placed) → (first_repeat placed ≡ None)
+        ↔ HaveDistinctIds (elements_in placed) }
+    ensures first { (placed : List Placed) (place : ℕ) → first_repeat placed ≡ Some place
+        → IsFirstRepeat placed place }
 {}
 
 /// Copies of whole elements are whole, so their texts are read back.

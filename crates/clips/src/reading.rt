@@ -29,10 +29,12 @@ use std::alloc::{AllocError, Global};
 /// The clip that a value is, or its first fault.
 pub fn read_clip(alloc: Global, value: &Raw) -> Result<Clip, Stop<ClipFault>>
     ensures clip { IfOk result (IsClipOf value.now) }
-    ensures fault { (fault : ClipFault) → result ≡ Err (Stop.Fault fault) → IsClipFault value.now fault }
+    ensures fault { (fault : ClipFault) → result ≡ Err (Stop.Fault fault)
+        → IsClipFault value.now fault }
     ensures distinct { IfOk result (λ clip. HaveDistinctIds clip.elements) }
     ensures whole { IfOk result (λ clip. All IsWholeElement clip.elements) }
-    ensures files { IfOk result (λ clip. AllByRecursion (λ (file : Pair). IsCompact 126 file.1) (pairs clip.files)) }
+    ensures files { IfOk result (λ clip. AllByRecursion (λ (file : Pair). IsCompact 126 file.1)
+        (pairs clip.files)) }
     ensures places { IfOk result (λ clip. length clip.places ≡ length clip.elements) }
 {
     let Some(found) = shaped(members(alloc, value))? else {
@@ -56,11 +58,12 @@ pub fn read_clip(alloc: Global, value: &Raw) -> Result<Clip, Stop<ClipFault>>
     })
 }
 
-/// The elements that the values are, each with its place, without what is dropped and without deleted ones; or the
-/// first fault among them.
+/// The elements that the values are, each with its place, without what is dropped and without
+/// deleted ones; or the first fault among them.
 fn live_elements(alloc: Global, values: &List<Raw>) -> Result<List<Placed>, Stop<ClipFault>>
     ensures read { IfOk result (AreLiveOf values.now) }
-    ensures fault { (fault : ClipFault) → result ≡ Err (Stop.Fault fault) → IsElementsFault values.now fault }
+    ensures fault { (fault : ClipFault) → result ≡ Err (Stop.Fault fault)
+        → IsElementsFault values.now fault }
     ensures whole { IfOk result (λ placed. All IsWholeElement (elements_in placed)) }
 {
     let placed = live(faults_told(read_placed(alloc, values))?);
@@ -88,8 +91,8 @@ fn faults_told(
     }
 }
 
-/// The elements that the values are, in their order, each with its place, without what is dropped; or the first faulty
-/// one.
+/// The elements that the values are, in their order, each with its place, without what is dropped;
+/// or the first faulty one.
 pub fn read_placed(alloc: Global, values: &List<Raw>) -> Result<List<Placed>, Stop<FaultyElement>>
     ensures read { IfOk result (AreReadFrom 0 values.now) }
     ensures fault { (faulty : FaultyElement) → result ≡ Err (Stop.Fault faulty)

@@ -40,22 +40,26 @@ asked-words (Recover form.State) names = refl
 asked-words (Recover form.Scene) names = refl
 asked-words (Paste prefix) names = ap (λ b. option_map Answer (if b then Some (Paste prefix) else None)) names
 asked-words Library names = refl
-asked-words (Insert insertion) names = ap₂ (λ a b. option_map Answer (if a && b then Some (Insert insertion) else None)) names.0 names.1
+asked-words (Insert insertion) names =
+    ap₂ (λ a b. option_map Answer (if a && b then Some (Insert insertion) else None)) names.0 names.1
 
 -- The words are those of the command, and may stand for its texts.
 abbrev IsAsked : List (List ℕ) → Command → Type 0
 IsAsked words command = (words ≡ words_of command) × HasNames command
 
-asks-so : (made command : Command) (words : List (List ℕ)) → words ≡ words_of made → HasNames made → Some made ≡ Some command → IsAsked words command
+asks-so : (made command : Command) (words : List (List ℕ)) → words ≡ words_of made → HasNames made
+    → Some made ≡ Some command → IsAsked words command
 asks-so made command words is names e = subst (IsAsked words) (some-same made command e) (is, names)
 
 -- what is found where a word is this one, or by a later test
 tested : (word text : List ℕ) (options : List (List ℕ)) (found rest : Option Command) (command : Command)
-    → (found ≡ Some command → IsAsked (text ∷ options) command) → (rest ≡ Some command → IsAsked (word ∷ options) command)
+    → (found ≡ Some command → IsAsked (text ∷ options) command)
+    → (rest ≡ Some command → IsAsked (word ∷ options) command)
     → (if bytes_eq word text then found else rest) ≡ Some command → IsAsked (word ∷ options) command
 tested word text options found rest command here later e =
     elim (cases_Bool (bytes_eq word text)) [
-      | inl t ↦ subst (λ w. IsAsked (w ∷ options) command) (sym (bytes_eq-true word text t)) (here (sym (ap (λ b. if b then found else rest) t) ∙ e))
+      | inl t ↦ subst (λ w. IsAsked (w ∷ options) command) (sym (bytes_eq-true word text t))
+          (here (sym (ap (λ b. if b then found else rest) t) ∙ e))
       | inr f ↦ later (sym (ap (λ b. if b then found else rest) f) ∙ e)
     ]
 
@@ -65,15 +69,18 @@ options_of Compact = []
 options_of Pretty = codes "--pretty" ∷ []
 
 -- what one further word asks for, and none
-one-word : {X : Type 0} (text word : List ℕ) (made found : X) (words : X → List (List ℕ)) → words made ≡ text ∷ [] → (if bytes_eq word text then Some made else None) ≡ Some found
+one-word : {X : Type 0} (text word : List ℕ) (made found : X) (words : X → List (List ℕ)) → words made ≡ text ∷ []
+    → (if bytes_eq word text then Some made else None) ≡ Some found
     → word ∷ [] ≡ words found
 one-word text word made found words named e =
     elim (cases_Bool (bytes_eq word text)) [
-      | inl t ↦ ap (λ w. w ∷ []) (bytes_eq-true word text t) ∙ (sym named ∙ ap words (some-same made found (sym (ap (λ b. if b then Some made else None) t) ∙ e)))
+      | inl t ↦ ap (λ w. w ∷ []) (bytes_eq-true word text t)
+          ∙ (sym named ∙ ap words (some-same made found (sym (ap (λ b. if b then Some made else None) t) ∙ e)))
       | inr f ↦ absurd (none-some found (sym (ap (λ b. if b then Some made else None) f) ∙ e))
     ]
 
-layout-words : (options : List (List ℕ)) (layout : Layout) → asked_layout options ≡ Some layout → options ≡ options_of layout
+layout-words : (options : List (List ℕ)) (layout : Layout) → asked_layout options ≡ Some layout
+    → options ≡ options_of layout
 layout-words [] layout e = ap options_of (some-same Compact layout e)
 layout-words (word ∷ []) layout e = one-word (codes "--pretty") word Pretty layout options_of refl e
 layout-words (word ∷ next ∷ more) layout e = absurd (none-some layout e)
@@ -89,16 +96,20 @@ form-words (word ∷ []) f e = one-word (codes "--scene") word form.Scene f form
 form-words (word ∷ next ∷ more) f e = absurd (none-some f e)
 
 -- what is made of what the words behind a command ask for
-laid-out : {X : Type 0} (make : X → Command) (ask : List (List ℕ) → Option X) (words : X → List (List ℕ)) (word : List ℕ) (options : List (List ℕ)) (command : Command)
-    → ((x : X) → ask options ≡ Some x → options ≡ words x) → ((x : X) → word ∷ words x ≡ words_of (make x)) → ((x : X) → HasNames (make x))
+laid-out : {X : Type 0} (make : X → Command) (ask : List (List ℕ) → Option X) (words : X
+    → List (List ℕ)) (word : List ℕ) (options : List (List ℕ)) (command : Command)
+    → ((x : X) → ask options ≡ Some x → options ≡ words x) → ((x : X) → word ∷ words x ≡ words_of (make x))
+    → ((x : X) → HasNames (make x))
     → option_map make (ask options) ≡ Some command → IsAsked (word ∷ options) command
 laid-out {X} make ask words word options command said named names e = by (ask options) refl e
   where
-    by : (found : Option X) → ask options ≡ found → option_map make found ≡ Some command → IsAsked (word ∷ options) command
+    by : (found : Option X) → ask options ≡ found → option_map make found ≡ Some command
+        → IsAsked (word ∷ options) command
     by None is e = absurd (none-some command e)
     by (Some x) is e = asks-so (make x) command (word ∷ options) (ap (λ o. word ∷ o) (said x is) ∙ named x) (names x) e
 
-alone : (made command : Command) (word : List ℕ) (options : List (List ℕ)) → word ∷ [] ≡ words_of made → HasNames made → asked_alone made options ≡ Some command
+alone : (made command : Command) (word : List ℕ) (options : List (List ℕ)) → word ∷ [] ≡ words_of made → HasNames made
+    → asked_alone made options ≡ Some command
     → IsAsked (word ∷ options) command
 alone made command word [] named names e = asks-so made command (word ∷ []) named names e
 alone made command word (next ∷ more) named names e = absurd (none-some command e)
@@ -115,38 +126,49 @@ recover-words : (f : Form) → codes "recover" ∷ form_options f ≡ words_of (
 recover-words form.State = refl
 recover-words form.Scene = refl
 
-plain-words : (word : List ℕ) (options : List (List ℕ)) (command : Command) → asked_plain word options ≡ Some command → IsAsked (word ∷ options) command
+plain-words : (word : List ℕ) (options : List (List ℕ)) (command : Command) → asked_plain word options ≡ Some command
+    → IsAsked (word ∷ options) command
 plain-words word options command e =
-    tested word (codes "restore") options _ _ command (laid-out Restore asked_layout options_of (codes "restore") options command (layout-words options) restore-words (λ x. tt))
-    (tested word (codes "merge") options _ _ command (laid-out Merge asked_layout options_of (codes "merge") options command (layout-words options) merge-words (λ x. tt))
+    tested word (codes "restore") options _ _ command (laid-out Restore asked_layout options_of (codes "restore")
+    options command (layout-words options) restore-words (λ x. tt))
+    (tested word (codes "merge") options _ _ command (laid-out Merge asked_layout options_of (codes "merge") options
+    command (layout-words options) merge-words (λ x. tt))
     (tested word (codes "state") options _ _ command (alone State command (codes "state") options refl tt)
     (tested word (codes "pictures") options _ _ command (alone Pictures command (codes "pictures") options refl tt)
     (tested word (codes "replay") options _ _ command (alone Replay command (codes "replay") options refl tt)
-    (tested word (codes "recover") options _ _ command (laid-out Recover asked_form form_options (codes "recover") options command (form-words options) recover-words (λ x. tt))
+    (tested word (codes "recover") options _ _ command (laid-out Recover asked_form form_options (codes "recover")
+    options command (form-words options) recover-words (λ x. tt))
     (tested word (codes "library") options _ _ command (alone Library command (codes "library") options refl tt)
     (λ e. absurd (none-some command e)))))))) e
 
 -- a command that takes a text where a word may stand for it
-named : (is : Bool) (made command : Command) (words : List (List ℕ)) → words ≡ words_of made → (is ≡ true → HasNames made) → (if is then Some made else None) ≡ Some command → IsAsked words command
+named : (is : Bool) (made command : Command) (words : List (List ℕ)) → words ≡ words_of made
+    → (is ≡ true → HasNames made) → (if is then Some made else None) ≡ Some command → IsAsked words command
 named true made command words said names e = asks-so made command words said (names refl) e
 named false made command words said names e = absurd (none-some command e)
 
-paste-words : (options : List (List ℕ)) (command : Command) → asked_paste options ≡ Some command → IsAsked (codes "paste" ∷ options) command
+paste-words : (options : List (List ℕ)) (command : Command) → asked_paste options ≡ Some command
+    → IsAsked (codes "paste" ∷ options) command
 paste-words [] command e = absurd (none-some command e)
-paste-words (prefix ∷ []) command e = named (is_name prefix) (Paste prefix) command (codes "paste" ∷ prefix ∷ []) refl (λ is. is) e
+paste-words (prefix ∷ []) command e =
+    named (is_name prefix) (Paste prefix) command (codes "paste" ∷ prefix ∷ []) refl (λ is. is) e
 paste-words (prefix ∷ next ∷ more) command e = absurd (none-some command e)
 
-insert-words : (options : List (List ℕ)) (command : Command) → asked_insert options ≡ Some command → IsAsked (codes "insert" ∷ options) command
+insert-words : (options : List (List ℕ)) (command : Command) → asked_insert options ≡ Some command
+    → IsAsked (codes "insert" ∷ options) command
 insert-words [] command e = absurd (none-some command e)
 insert-words (item ∷ []) command e = absurd (none-some command e)
 insert-words (item ∷ prefix ∷ []) command e =
-    named (is_name item && is_name prefix) (Insert (record { item = item; prefix = prefix })) command (codes "insert" ∷ item ∷ prefix ∷ []) refl (and_parts (is_name item) (is_name prefix)) e
+    named (is_name item && is_name prefix) (Insert (record { item = item; prefix = prefix })) command (codes "insert"
+    ∷ item ∷ prefix ∷ []) refl (and_parts (is_name item) (is_name prefix)) e
 insert-words (item ∷ prefix ∷ next ∷ more) command e = absurd (none-some command e)
 
-command-words : (word : List ℕ) (options : List (List ℕ)) (command : Command) → asked_command word options ≡ Some command → IsAsked (word ∷ options) command
+command-words : (word : List ℕ) (options : List (List ℕ)) (command : Command)
+    → asked_command word options ≡ Some command → IsAsked (word ∷ options) command
 command-words word options command e =
     tested word (codes "paste") options _ _ command (paste-words options command)
-    (tested word (codes "insert") options _ _ command (insert-words options command) (plain-words word options command)) e
+    (tested word (codes "insert") options _ _ command (insert-words options command) (plain-words word options command))
+    e
 
 -- what is asked for is one request
 pub same-answer : (a b : Command) → Some (Answer a) ≡ Some (Answer b) → a ≡ b
@@ -159,12 +181,14 @@ pub same-keeping : (a b : Keeping) → Some (Keep a) ≡ Some (Keep b) → a ≡
 same-keeping a b e = cc
 
 -- words that ask for something are a form of it: where they can't be read, memory is wanted
-pub memory-wanted : (request : Request) (f : Fault) (asks : Option Request) → ((f ≡ fault.Usage) × (asks ≡ None)) ⊎ ((f ≡ fault.Memory) × IsSome asks) → asks ≡ Some request → f ≡ fault.Memory
+pub memory-wanted : (request : Request) (f : Fault) (asks : Option Request) → ((f ≡ fault.Usage) × (asks ≡ None))
+    ⊎ ((f ≡ fault.Memory) × IsSome asks) → asks ≡ Some request → f ≡ fault.Memory
 memory-wanted request f asks (inl (usage, none)) is = absurd (none-some request (sym none ∙ is))
 memory-wanted request f asks (inr (memory, some)) is = memory
 
 -- ---- what is asked for is one of the four
-answered : (found : Option Command) (command : Command) → option_map Answer found ≡ Some (Answer command) → found ≡ Some command
+answered : (found : Option Command) (command : Command) → option_map Answer found ≡ Some (Answer command)
+    → found ≡ Some command
 answered None command e = absurd (none-some (Answer command) e)
 answered (Some other) command e = cc
 
@@ -173,7 +197,8 @@ drilled None drill e = absurd (none-some (Drilled drill) e)
 drilled (Some other) drill e = cc
 
 -- an option that is made of what the one makes is none that is made of what the other makes
-differs : {A B : Type 0} (make : A → Request) (other : B) (of : B → Request) (found : Option A) → ((a : A) → make a ≡ of other → ⊥)
+differs : {A B : Type 0} (make : A → Request) (other : B) (of : B → Request) (found : Option A)
+    → ((a : A) → make a ≡ of other → ⊥)
     → option_map make found ≡ Some (of other) → ⊥
 differs make other of None apart e = none-some (of other) e
 differs make other of (Some a) apart e = apart a (some-same (make a) (of other) e)
@@ -182,16 +207,19 @@ not-drilled : (found : Option Drill) (command : Command) → option_map Drilled 
 not-drilled found command e = differs Drilled command Answer found (λ drill e. cc) e
 
 -- what the words behind `serve` ask for is a service or a durable room
-room-differs : {B : Type 0} (other : B) (of : B → Request) (service : Option Service) (keeping : Option Keeping) → ((s : Service) → Serve s ≡ of other → ⊥) → ((k : Keeping) → Keep k ≡ of other → ⊥)
+room-differs : {B : Type 0} (other : B) (of : B → Request) (service : Option Service) (keeping : Option Keeping)
+    → ((s : Service) → Serve s ≡ of other → ⊥) → ((k : Keeping) → Keep k ≡ of other → ⊥)
     → room_of_words service keeping ≡ Some (of other) → ⊥
 room-differs other of (Some service) keeping serves keeps e = serves service (some-same (Serve service) (of other) e)
 room-differs other of None keeping serves keeps e = differs Keep other of keeping keeps e
 
-room-served : (found : Option Service) (keeping : Option Keeping) (service : Service) → room_of_words found keeping ≡ Some (Serve service) → found ≡ Some service
+room-served : (found : Option Service) (keeping : Option Keeping) (service : Service)
+    → room_of_words found keeping ≡ Some (Serve service) → found ≡ Some service
 room-served (Some other) keeping service e = cc
 room-served None keeping service e = absurd (differs Keep service Serve keeping (λ k e. cc) e)
 
-room-kept : (found : Option Service) (keeping : Option Keeping) (kept : Keeping) → room_of_words found keeping ≡ Some (Keep kept) → keeping ≡ Some kept
+room-kept : (found : Option Service) (keeping : Option Keeping) (kept : Keeping)
+    → room_of_words found keeping ≡ Some (Keep kept) → keeping ≡ Some kept
 room-kept (Some other) keeping kept e = absurd (serve-kept other kept e)
   where
     serve-kept : (s : Service) (k : Keeping) → Some (Serve s) ≡ Some (Keep k) → ⊥
@@ -202,7 +230,8 @@ room-kept None (Some k) kept e = cc
 -- what is found behind the two tests of a first word
 by-word : (word : List ℕ) (served drilled answered found : Option Request) (P : Type 0)
     → (served ≡ found → bytes_eq word (codes "serve") ≡ true → P) → (drilled ≡ found → P) → (answered ≡ found → P)
-    → (if bytes_eq word (codes "serve") then served else if bytes_eq word (codes "drill") then drilled else answered) ≡ found → P
+    → (if bytes_eq word (codes "serve") then served else if bytes_eq word (codes "drill") then drilled else answered)
+    ≡ found → P
 by-word word served drilled answered found P serves drills answers e =
     elim (cases_Bool (bytes_eq word (codes "serve"))) [
       | inl t ↦ serves (let h = rw t at e in h) t
@@ -215,13 +244,16 @@ by-word word served drilled answered found P serves drills answers e =
 words-asked : (words : List (List ℕ)) (command : Command) → asked words ≡ Some (Answer command) → IsAsked words command
 words-asked [] command e = absurd (none-some (Answer command) e)
 words-asked (word ∷ options) command e =
-    by-word word (asked_room options) (option_map Drilled (asked_drill options)) (option_map Answer (asked_command word options))
+    by-word word (asked_room options) (option_map Drilled (asked_drill options))
+    (option_map Answer (asked_command word options))
     (Some (Answer command)) (IsAsked (word ∷ options) command)
-    (λ is t. absurd (room-differs command Answer (asked_service options) (asked_keeping options) (λ s e. cc) (λ k e. cc) is))
+    (λ is t. absurd (room-differs command Answer (asked_service options) (asked_keeping options) (λ s e. cc) (λ k e. cc)
+    is))
     (λ is. absurd (not-drilled (asked_drill options) command is))
     (λ is. command-words word options command (answered (asked_command word options) command is)) e
 
-pub words-ask : (command : Command) (words : List (List ℕ)) → asked words ≡ Some (Answer command) ↔ ((words ≡ words_of command) × HasNames command)
+pub words-ask : (command : Command) (words : List (List ℕ)) → asked words ≡ Some (Answer command)
+    ↔ ((words ≡ words_of command) × HasNames command)
 words-ask command words = (words-asked words command, λ is. ap asked is.0 ∙ asked-words command is.1)
 
 -- ---- a service that is asked for
@@ -236,22 +268,26 @@ least from most word number e = elim (cases_Bool (is_number_within from most wor
       grind (arith, nat_tests)
 ]
 
-made : (port links idle : Option ℕ) (layout : Option Layout) (service : Service) → service_of port links idle layout ≡ Some service
+made : (port links idle : Option ℕ) (layout : Option Layout) (service : Service)
+    → service_of port links idle layout ≡ Some service
     → (links ≡ Some service.limits.links) × ((idle ≡ Some service.limits.idle) × (1 ≤ service.limits.events))
 made None links idle layout service e = absurd (none-some service e)
 made (Some port) None idle layout service e = absurd (none-some service e)
 made (Some port) (Some links) None layout service e = absurd (none-some service e)
 made (Some port) (Some links) (Some idle) None service e = absurd (none-some service e)
 made (Some port) (Some links) (Some idle) (Some layout) service e =
-    let same = some-same _ service e in
-    (ap (λ (s : Service). Some s.limits.links) same, (ap (λ (s : Service). Some s.limits.idle) same, subst (λ (s : Service). 1 ≤ s.limits.events) same (lit≤ tt)))
+    let same = some-same _ service e in (
+      ap (λ (s : Service). Some s.limits.links) same,
+      (ap (λ (s : Service). Some s.limits.idle) same, subst (λ (s : Service). 1 ≤ s.limits.events) same (lit≤ tt)),
+    )
 
 service-is : (options : List (List ℕ)) (service : Service) → asked_service options ≡ Some service → IsService service
 service-is [] service e = absurd (none-some service e)
 service-is (port ∷ []) service e = absurd (none-some service e)
 service-is (port ∷ links ∷ []) service e = absurd (none-some service e)
 service-is (port ∷ links ∷ idle ∷ options) service e =
-    let is = made (number_within 1 65535 port) (number_within 1 1024 links) (number_within 1 4294967295 idle) (asked_layout options) service e in
+    let is = made (number_within 1 65535 port) (number_within 1 1024 links) (number_within 1 4294967295 idle)
+    (asked_layout options) service e in
     record {
       links = least 1 1024 links service.limits.links is.0;
       idle = least 1 4294967295 idle service.limits.idle is.1.0;
@@ -261,22 +297,26 @@ service-is (port ∷ links ∷ idle ∷ options) service e =
 pub asked-service : (words : List (List ℕ)) (service : Service) → asked words ≡ Some (Serve service) → IsService service
 asked-service [] service e = absurd (none-some (Serve service) e)
 asked-service (word ∷ options) service e =
-    by-word word (asked_room options) (option_map Drilled (asked_drill options)) (option_map Answer (asked_command word options))
+    by-word word (asked_room options) (option_map Drilled (asked_drill options))
+    (option_map Answer (asked_command word options))
     (Some (Serve service)) (IsService service)
     (λ is t. service-is options service (room-served (asked_service options) (asked_keeping options) service is))
     (λ is. absurd (differs Drilled service Serve (asked_drill options) (λ drill e. cc) is))
     (λ is. absurd (differs Answer service Serve (asked_command word options) (λ command e. cc) is)) e
 
 -- ---- a durable room that is asked for
-made-kept : (port links idle : Option ℕ) (begins : Option Begins) (keeping : Keeping) → keeping_of port links idle begins ≡ Some keeping
+made-kept : (port links idle : Option ℕ) (begins : Option Begins) (keeping : Keeping)
+    → keeping_of port links idle begins ≡ Some keeping
     → (links ≡ Some keeping.limits.links) × ((idle ≡ Some keeping.limits.idle) × (1 ≤ keeping.limits.events))
 made-kept None links idle begins keeping e = absurd (none-some keeping e)
 made-kept (Some port) None idle begins keeping e = absurd (none-some keeping e)
 made-kept (Some port) (Some links) None begins keeping e = absurd (none-some keeping e)
 made-kept (Some port) (Some links) (Some idle) None keeping e = absurd (none-some keeping e)
 made-kept (Some port) (Some links) (Some idle) (Some begins) keeping e =
-    let same = some-same _ keeping e in
-    (ap (λ (k : Keeping). Some k.limits.links) same, (ap (λ (k : Keeping). Some k.limits.idle) same, subst (λ (k : Keeping). 1 ≤ k.limits.events) same (lit≤ tt)))
+    let same = some-same _ keeping e in (
+      ap (λ (k : Keeping). Some k.limits.links) same,
+      (ap (λ (k : Keeping). Some k.limits.idle) same, subst (λ (k : Keeping). 1 ≤ k.limits.events) same (lit≤ tt)),
+    )
 
 keeping-is : (options : List (List ℕ)) (keeping : Keeping) → asked_keeping options ≡ Some keeping → IsKeeping keeping
 keeping-is [] keeping e = absurd (none-some keeping e)
@@ -284,7 +324,8 @@ keeping-is (port ∷ []) keeping e = absurd (none-some keeping e)
 keeping-is (port ∷ links ∷ []) keeping e = absurd (none-some keeping e)
 keeping-is (port ∷ links ∷ idle ∷ []) keeping e = absurd (none-some keeping e)
 keeping-is (port ∷ links ∷ idle ∷ word ∷ []) keeping e =
-    let is = made-kept (number_within 1 65535 port) (number_within 1 1024 links) (number_within 1 4294967295 idle) (asked_begins word) keeping e in
+    let is = made-kept (number_within 1 65535 port) (number_within 1 1024 links) (number_within 1 4294967295 idle)
+    (asked_begins word) keeping e in
     record {
       links = least 1 1024 links keeping.limits.links is.0;
       idle = least 1 4294967295 idle keeping.limits.idle is.1.0;
@@ -295,7 +336,8 @@ keeping-is (port ∷ links ∷ idle ∷ word ∷ next ∷ more) keeping e = absu
 pub asked-keeping : (words : List (List ℕ)) (keeping : Keeping) → asked words ≡ Some (Keep keeping) → IsKeeping keeping
 asked-keeping [] keeping e = absurd (none-some (Keep keeping) e)
 asked-keeping (word ∷ options) keeping e =
-    by-word word (asked_room options) (option_map Drilled (asked_drill options)) (option_map Answer (asked_command word options))
+    by-word word (asked_room options) (option_map Drilled (asked_drill options))
+    (option_map Answer (asked_command word options))
     (Some (Keep keeping)) (IsKeeping keeping)
     (λ is t. keeping-is options keeping (room-kept (asked_service options) (asked_keeping options) keeping is))
     (λ is. absurd (differs Drilled keeping Keep (asked_drill options) (λ drill e. cc) is))
@@ -313,7 +355,8 @@ greatest from most word number e = elim (cases_Bool (is_number_within from most 
       grind (arith, nat_tests)
 ]
 
-drill-made : (seed events : Option ℕ) (drill : Drill) → drill_of seed events ≡ Some drill → (seed ≡ Some drill.seed) × (events ≡ Some drill.events)
+drill-made : (seed events : Option ℕ) (drill : Drill) → drill_of seed events ≡ Some drill → (seed ≡ Some drill.seed)
+    × (events ≡ Some drill.events)
 drill-made None events drill e = absurd (none-some drill e)
 drill-made (Some seed) None drill e = absurd (none-some drill e)
 drill-made (Some seed) (Some events) drill e =
@@ -332,11 +375,14 @@ drill-is (seed ∷ events ∷ []) drill e =
     }
 drill-is (seed ∷ events ∷ word ∷ more) drill e = absurd (none-some drill e)
 
-pub asked-drill : (words : List (List ℕ)) (drill : Drill) → asked words ≡ Some (Drilled drill) → IsDrillWithinLimits drill
+pub asked-drill : (words : List (List ℕ)) (drill : Drill) → asked words ≡ Some (Drilled drill)
+    → IsDrillWithinLimits drill
 asked-drill [] drill e = absurd (none-some (Drilled drill) e)
 asked-drill (word ∷ options) drill e =
-    by-word word (asked_room options) (option_map Drilled (asked_drill options)) (option_map Answer (asked_command word options))
+    by-word word (asked_room options) (option_map Drilled (asked_drill options))
+    (option_map Answer (asked_command word options))
     (Some (Drilled drill)) (IsDrillWithinLimits drill)
-    (λ is t. absurd (room-differs drill Drilled (asked_service options) (asked_keeping options) (λ s e. cc) (λ k e. cc) is))
+    (λ is t. absurd (room-differs drill Drilled (asked_service options) (asked_keeping options) (λ s e. cc) (λ k e. cc)
+    is))
     (λ is. drill-is options drill (drilled (asked_drill options) drill is))
     (λ is. absurd (differs Answer drill Drilled (asked_command word options) (λ command e. cc) is)) e

@@ -28,41 +28,52 @@ moved-with : (e : ElementValue) (es : List ElementValue) → IsPermutation (e �
 moved-with e [] = IsPermutation-refl (e ∷ [])
 moved-with e (x ∷ xs) =
     cond_both (bytes_less x.id e.id) (x ∷ with_id e xs) (e ∷ x ∷ xs) (IsPermutation (e ∷ x ∷ xs))
-    (λ _. IsPermutation-trans _ (x ∷ e ∷ xs) _ (IsPermutation-sym _ _ (IsPermutation-middle (x ∷ []) e xs)) (IsPermutation-cons x _ _ (moved-with e xs)))
+    (λ _. IsPermutation-trans _ (x ∷ e ∷ xs) _ (IsPermutation-sym _ _ (IsPermutation-middle (x ∷ []) e xs))
+    (IsPermutation-cons x _ _ (moved-with e xs)))
     (λ _. IsPermutation-refl (e ∷ x ∷ xs))
 
 pub by_id-moved : (es : List ElementValue) → IsPermutation es (by_id es)
 by_id-moved [] = IsPermutation-refl []
-by_id-moved (e ∷ es) = IsPermutation-trans _ (e ∷ by_id es) _ (IsPermutation-cons e _ _ (by_id-moved es)) (moved-with e (by_id es))
+by_id-moved (e ∷ es) =
+    IsPermutation-trans _ (e ∷ by_id es) _ (IsPermutation-cons e _ _ (by_id-moved es)) (moved-with e (by_id es))
 
 -- ---- their ids rise
 abbrev IsApart : ElementValue → ElementValue → Type 0
 IsApart e x = bytes_eq e.id x.id ≡ false
 
-rise-with : (low : Option (List ℕ)) (e : ElementValue) (es : List ElementValue) → AllByRecursion (IsApart e) es → ends_rise low (Some e.id) ≡ true
+rise-with : (low : Option (List ℕ)) (e : ElementValue) (es : List ElementValue) → AllByRecursion (IsApart e) es
+    → ends_rise low (Some e.id) ≡ true
     → rise_between low None (ids_of es) ≡ true → rise_between low None (ids_of (with_id e es)) ≡ true
 rise-with low e [] apart above rise = and_from (ends_rise low (Some e.id)) true above refl
 rise-with low e (x ∷ xs) apart above rise =
     let parts = and_parts (ends_rise low (Some x.id)) (rise_between (Some x.id) None (ids_of xs)) rise in
     go parts.0 parts.1 (bytes_less x.id e.id) refl (λ less. rise-with (Some x.id) e xs apart.1 less parts.1)
   where
-    go : ends_rise low (Some x.id) ≡ true → rise_between (Some x.id) None (ids_of xs) ≡ true → (b : Bool) → bytes_less x.id e.id ≡ b
-        → (bytes_less x.id e.id ≡ true → rise_between (Some x.id) None (ids_of (with_id e xs)) ≡ true) → rise_between low None (ids_of (cond b (x ∷ with_id e xs) (e ∷ x ∷ xs))) ≡ true
-    go first behind true less more = and_from (ends_rise low (Some x.id)) (rise_between (Some x.id) None (ids_of (with_id e xs))) first (more less)
+    go : ends_rise low (Some x.id) ≡ true → rise_between (Some x.id) None (ids_of xs) ≡ true → (b : Bool)
+        → bytes_less x.id e.id ≡ b
+        → (bytes_less x.id e.id ≡ true → rise_between (Some x.id) None (ids_of (with_id e xs)) ≡ true)
+        → rise_between low None (ids_of (cond b (x ∷ with_id e xs) (e ∷ x ∷ xs))) ≡ true
+    go first behind true less more =
+        and_from (ends_rise low (Some x.id)) (rise_between (Some x.id) None (ids_of (with_id e xs))) first (more less)
     go first behind false not_less more =
         and_from (ends_rise low (Some e.id)) (rise_between (Some e.id) None (ids_of (x ∷ xs))) above
-        (and_from (bytes_less e.id x.id) (rise_between (Some x.id) None (ids_of xs)) (bytes_less-turned e.id x.id apart.0 not_less) behind)
+        (and_from (bytes_less e.id x.id) (rise_between (Some x.id) None (ids_of xs))
+        (bytes_less-turned e.id x.id apart.0 not_less) behind)
 
-apart-ids : (e : ElementValue) (es : List ElementValue) → AllByRecursion (λ id. bytes_eq e.id id ≡ false) (ids_of es) → AllByRecursion (IsApart e) es
+apart-ids : (e : ElementValue) (es : List ElementValue) → AllByRecursion (λ id. bytes_eq e.id id ≡ false) (ids_of es)
+    → AllByRecursion (IsApart e) es
 apart-ids e [] apart = tt
 apart-ids e (x ∷ xs) apart = (apart.0, apart-ids e xs apart.1)
 
-distinct-parts : (e : ElementValue) (es : List ElementValue) → HaveDistinctIds (e ∷ es) → AllByRecursion (IsApart e) es × HaveDistinctIds es
+distinct-parts : (e : ElementValue) (es : List ElementValue) → HaveDistinctIds (e ∷ es) → AllByRecursion (IsApart e) es
+    × HaveDistinctIds es
 unfolding IsDistinct
 distinct-parts e es distinct = (apart-ids e es distinct.0, distinct.1)
 
-apart-by_id : (e : ElementValue) (es : List ElementValue) → AllByRecursion (IsApart e) es → AllByRecursion (IsApart e) (by_id es)
-apart-by_id e es apart = recursion_from_All (IsApart e) (by_id es) (All-permutation (IsApart e) es (by_id es) (by_id-moved es) (All-from_recursion (IsApart e) es apart))
+apart-by_id : (e : ElementValue) (es : List ElementValue) → AllByRecursion (IsApart e) es
+    → AllByRecursion (IsApart e) (by_id es)
+apart-by_id e es apart = recursion_from_All (IsApart e) (by_id es)
+    (All-permutation (IsApart e) es (by_id es) (by_id-moved es) (All-from_recursion (IsApart e) es apart))
 
 by_id-rise : (es : List ElementValue) → HaveDistinctIds es → are_rising (ids_of (by_id es)) ≡ true
 by_id-rise [] distinct = refl
@@ -71,13 +82,15 @@ by_id-rise (e ∷ es) distinct =
     rise-with None e (by_id es) (apart-by_id e es parts.0) refl (by_id-rise es parts.1)
 
 -- ---- the elements of one id are as before
-swapped : (e x : ElementValue) (es : List ElementValue) (p q : Bool) → (p ≡ true → q ≡ true → ⊥) → cond p (x ∷ cond q (e ∷ es) es) (cond q (e ∷ es) es) ≡ cond q (e ∷ cond p (x ∷ es) es) (cond p (x ∷ es) es)
+swapped : (e x : ElementValue) (es : List ElementValue) (p q : Bool) → (p ≡ true → q ≡ true → ⊥)
+    → cond p (x ∷ cond q (e ∷ es) es) (cond q (e ∷ es) es) ≡ cond q (e ∷ cond p (x ∷ es) es) (cond p (x ∷ es) es)
 swapped e x es true true not_both = absurd (not_both refl refl)
 swapped e x es true false not_both = refl
 swapped e x es false true not_both = refl
 swapped e x es false false not_both = refl
 
-filter-with : (id : List ℕ) (e : ElementValue) (es : List ElementValue) → AllByRecursion (IsApart e) es → filter (has_id id) (with_id e es) ≡ filter (has_id id) (e ∷ es)
+filter-with : (id : List ℕ) (e : ElementValue) (es : List ElementValue) → AllByRecursion (IsApart e) es
+    → filter (has_id id) (with_id e es) ≡ filter (has_id id) (e ∷ es)
 filter-with id e [] apart = refl
 filter-with id e (x ∷ xs) apart = go (bytes_less x.id e.id) (filter-with id e xs apart.1)
   where
@@ -86,22 +99,26 @@ filter-with id e (x ∷ xs) apart = go (bytes_less x.id e.id) (filter-with id e 
         let same : e.id ≡ x.id = sym (bytes_eq-true id e.id second) ∙ bytes_eq-true id x.id first in
         both_ways (bytes_eq e.id x.id) apart.0 (ap (bytes_eq e.id) (sym same) ∙ bytes_eq-same e.id)
 
-    go : (b : Bool) → filter (has_id id) (with_id e xs) ≡ filter (has_id id) (e ∷ xs) → filter (has_id id) (cond b (x ∷ with_id e xs) (e ∷ x ∷ xs)) ≡ filter (has_id id) (e ∷ x ∷ xs)
+    go : (b : Bool) → filter (has_id id) (with_id e xs) ≡ filter (has_id id) (e ∷ xs)
+        → filter (has_id id) (cond b (x ∷ with_id e xs) (e ∷ x ∷ xs)) ≡ filter (has_id id) (e ∷ x ∷ xs)
     go true more =
         ap (λ es. cond (has_id id x) (x ∷ es) es) more
         ∙ swapped e x (filter (has_id id) xs) (has_id id x) (has_id id e) not_both
     go false more = refl
 
-filter-by_id : (id : List ℕ) (es : List ElementValue) → HaveDistinctIds es → filter (has_id id) (by_id es) ≡ filter (has_id id) es
+filter-by_id : (id : List ℕ) (es : List ElementValue) → HaveDistinctIds es
+    → filter (has_id id) (by_id es) ≡ filter (has_id id) es
 filter-by_id id [] distinct = refl
 filter-by_id id (e ∷ es) distinct =
     let parts = distinct-parts e es distinct in
-    filter-with id e (by_id es) (apart-by_id e es parts.0) ∙ ap (λ fs. cond (has_id id e) (e ∷ fs) fs) (filter-by_id id es parts.1)
+    filter-with id e (by_id es) (apart-by_id e es parts.0)
+    ∙ ap (λ fs. cond (has_id id e) (e ∷ fs) fs) (filter-by_id id es parts.1)
 
 pub AreStored-by_id : (es : List ElementValue) → HaveDistinctIds es → AreStored es (by_id es)
 AreStored-by_id es distinct =
     let rise = by_id-rise es distinct in
     record {
       ordered = rise;
-      each = λ id. (AreStored-itself (by_id es) rise).each id ∙ (stored-leader (by_id es) id ∙ (ap leader (filter-by_id id es distinct) ∙ sym (stored-leader es id)));
+      each = λ id. (AreStored-itself (by_id es) rise).each id
+          ∙ (stored-leader (by_id es) id ∙ (ap leader (filter-by_id id es distinct) ∙ sym (stored-leader es id)));
     }

@@ -30,36 +30,47 @@ use Rattle.commands.specs.Drills.{IsDrilled, of_first, of_report, of_world, show
 use Rattle.commands.specs.declared.words.Drill.{Drill}
 
 -- ---- what is told of a report is told of its world
-stored-told : (head : Heading) (seats : List Seat) (reports : List ReplicaReport) → AllZip (IsReplicaReport head) seats reports
-    → (of_first (λ (report : ReplicaReport). report.stored) reports ≡ of_first (λ (s : Seat). length s.state.stored) seats)
-    × (of_first (λ (report : ReplicaReport). report.live) reports ≡ of_first (λ (s : Seat). length (live_elements s.state.stored)) seats)
+stored-told : (head : Heading) (seats : List Seat) (reports : List ReplicaReport)
+    → AllZip (IsReplicaReport head) seats reports
+    → (of_first (λ (report : ReplicaReport). report.stored) reports
+    ≡ of_first (λ (s : Seat). length s.state.stored) seats)
+    × (of_first (λ (report : ReplicaReport). report.live) reports
+    ≡ of_first (λ (s : Seat). length (live_elements s.state.stored)) seats)
 stored-told head [] [] told = (refl, refl)
 stored-told head [] (report ∷ reports) told = absurd told
 stored-told head (s ∷ seats) [] told = absurd told
 stored-told head (s ∷ seats) (report ∷ reports) told = (told.0.stored, told.0.live)
 
-count-told : (head : Heading) (seats : List Seat) (reports : List ReplicaReport) → AllZip (IsReplicaReport head) seats reports → length reports ≡ length seats
+count-told : (head : Heading) (seats : List Seat) (reports : List ReplicaReport)
+    → AllZip (IsReplicaReport head) seats reports → length reports ≡ length seats
 count-told head [] [] told = refl
 count-told head [] (report ∷ reports) told = absurd told
 count-told head (s ∷ seats) [] told = absurd told
 count-told head (s ∷ seats) (report ∷ reports) told = ap suc (count-told head seats reports told.1)
 
-all-told : (head : Heading) (first text : List ℕ) → first ≡ text → (seats : List Seat) (reports : List ReplicaReport) → AllZip (IsReplicaReport head) seats reports
-    → list_all (λ (report : ReplicaReport). bytes_eq report.scene first) reports ≡ list_all (λ (s : Seat). bytes_eq (scene_text head (shown_at s)) text) seats
+all-told : (head : Heading) (first text : List ℕ) → first ≡ text → (seats : List Seat) (reports : List ReplicaReport)
+    → AllZip (IsReplicaReport head) seats reports
+    → list_all (λ (report : ReplicaReport). bytes_eq report.scene first) reports
+    ≡ list_all (λ (s : Seat). bytes_eq (scene_text head (shown_at s)) text) seats
 all-told head first text same [] [] told = refl
 all-told head first text same [] (report ∷ reports) told = absurd told
 all-told head first text same (s ∷ seats) [] told = absurd told
 all-told head first text same (s ∷ seats) (report ∷ reports) told =
-    ap₂ (λ (one more : Bool). one && more) (ap₂ bytes_eq told.0.scene same) (all-told head first text same seats reports told.1)
+    ap₂ (λ (one more : Bool). one && more) (ap₂ bytes_eq told.0.scene same)
+    (all-told head first text same seats reports told.1)
 
-scenes-told : (head : Heading) (seats : List Seat) (reports : List ReplicaReport) → AllZip (IsReplicaReport head) seats reports
-    → show_one_scene (λ (report : ReplicaReport). report.scene) reports ≡ show_one_scene (λ (s : Seat). scene_text head (shown_at s)) seats
+scenes-told : (head : Heading) (seats : List Seat) (reports : List ReplicaReport)
+    → AllZip (IsReplicaReport head) seats reports
+    → show_one_scene (λ (report : ReplicaReport). report.scene) reports
+    ≡ show_one_scene (λ (s : Seat). scene_text head (shown_at s)) seats
 scenes-told head [] [] told = refl
 scenes-told head [] (report ∷ reports) told = absurd told
 scenes-told head (s ∷ seats) [] told = absurd told
-scenes-told head (s ∷ seats) (report ∷ reports) told = all-told head report.scene (scene_text head (shown_at s)) told.0.scene seats reports told.1
+scenes-told head (s ∷ seats) (report ∷ reports) told =
+    all-told head report.scene (scene_text head (shown_at s)) told.0.scene seats reports told.1
 
-pub report-summed : (session : Session) (w : World) (report : Report) → IsReportOf session w report → of_report report ≡ of_world session w report.clashes
+pub report-summed : (session : Session) (w : World) (report : Report) → IsReportOf session w report
+    → of_report report ≡ of_world session w report.clashes
 report-summed session w report is =
     let head = head_of session in
     let first = stored-told head w.seats report.replicas is.replicas in
@@ -74,27 +85,34 @@ report-summed session w report is =
     }
 
 -- where all replicas show the same, it is told so
-all-show : (f : Seat → List ℕ) (text : List ℕ) (seats : List Seat) → ((s : Seat) → Contains seats s → f s ≡ text) → list_all (λ s. bytes_eq (f s) text) seats ≡ true
+all-show : (f : Seat → List ℕ) (text : List ℕ) (seats : List Seat) → ((s : Seat) → Contains seats s → f s ≡ text)
+    → list_all (λ s. bytes_eq (f s) text) seats ≡ true
 all-show f text [] same = refl
 all-show f text (s ∷ seats) same =
     and_from (bytes_eq (f s) text) (list_all (λ other. bytes_eq (f other) text) seats)
     (subst (λ other. bytes_eq other text ≡ true) (sym (same s (Contains-head s seats))) (bytes_eq-same text))
     (all-show f text seats (λ other among. same other (Contains-cons s seats other among)))
 
-pub one-shown : (f : Seat → List ℕ) (seats : List Seat) → ((s other : Seat) → Contains seats s → Contains seats other → f s ≡ f other) → show_one_scene f seats ≡ true
+pub one-shown : (f : Seat → List ℕ) (seats : List Seat)
+    → ((s other : Seat) → Contains seats s → Contains seats other → f s ≡ f other) → show_one_scene f seats ≡ true
 one-shown f [] same = refl
-one-shown f (s ∷ seats) same = all-show f (f s) seats (λ other among. same other s (Contains-cons s seats other among) (Contains-head s seats))
+one-shown f (s ∷ seats) same =
+    all-show f (f s) seats (λ other among. same other s (Contains-cons s seats other among) (Contains-head s seats))
 
 -- ---- a drill tells one text
 pub drilled-once : (drill : Drill) (text other : List ℕ) → IsDrilled drill text → IsDrilled drill other → text ≡ other
 drilled-once drill text other a b =
     let same = session-once (drill_text drill.seed drill.events) a.session b.session a.read b.read in
     let counted : HaveClashes [] (all_elements b.session (last_world b.session)) a.clashes =
-    subst (λ (session : Session). HaveClashes [] (all_elements session (last_world session)) a.clashes) same a.counted in
-    let clashes = clashes-same [] (all_elements b.session (last_world b.session)) a.clashes b.clashes counted b.counted in
-    a.told ∙ (ap₂ (λ (session : Session) (count : ℕ). summary_text drill (of_world session (last_world session) count)) same clashes ∙ sym b.told)
+    subst (λ (session : Session). HaveClashes [] (all_elements session (last_world session)) a.clashes) same
+    a.counted in
+    let clashes =
+    clashes-same [] (all_elements b.session (last_world b.session)) a.clashes b.clashes counted b.counted in
+    a.told ∙ (ap₂ (λ (session : Session) (count : ℕ). summary_text drill (of_world session (last_world session) count))
+    same clashes ∙ sym b.told)
 
-pub drilled-exists : (drill : Drill) (session : Session) → IsSessionOf (drill_text drill.seed drill.events) session → (text : List ℕ) × IsDrilled drill text
+pub drilled-exists : (drill : Drill) (session : Session) → IsSessionOf (drill_text drill.seed drill.events) session
+    → (text : List ℕ) × IsDrilled drill text
 drilled-exists drill session read =
     let counted = (report-exists session).1 in (
       summary_text drill (of_world session (last_world session) counted.clashes),
@@ -105,7 +123,8 @@ drilled-exists drill session read =
 -- it has no elements to begin with
 pub unopened : (session : Session) → session.scene ≡ None → HaveClashes [] (opening_elements session) 0
 unopened session none =
-    let empty : opening_elements session ≡ [] = ap (λ found. option_map_or (λ (scene : Scene). scene.elements) found []) none in
+    let empty : opening_elements session ≡ [] =
+    ap (λ found. option_map_or (λ (scene : Scene). scene.elements) found []) none in
     subst (λ elements. HaveClashes [] elements 0) (sym empty) refl
 
 -- no event of it brings updates from elsewhere, and none holds any off
@@ -128,7 +147,8 @@ unheld (Undo at time) is = tt
 unheld (Redo at time) is = tt
 
 -- each replica is told of each message by one of the last four events
-told-last : (replicas made at message : ℕ) → replicas ≡ 4 → at < replicas → message < made → PicksAll made → IsDelivered (last_events made) at message
+told-last : (replicas made at message : ℕ) → replicas ≡ 4 → at < replicas → message < made → PicksAll made
+    → IsDelivered (last_events made) at message
 told-last replicas made zero message four within some picks =
     record { picks = map All (rising made); delivery = (0, lit≤ tt, refl); whole = picks.up message some }
 told-last replicas made (suc zero) message four within some picks =
@@ -139,7 +159,8 @@ told-last replicas made (suc (suc (suc zero))) message four within some picks =
     record { picks = map All (falling made); delivery = (3, lit≤ tt, refl); whole = picks.down message some }
 told-last replicas made (suc (suc (suc (suc at)))) message four within some picks = absurd (grind (arith))
 
-each : {P Q : Event → Type 0} → ((event : Event) → P event → Q event) → (events : List Event) → AllByRecursion P events → AllByRecursion Q events
+each : {P Q : Event → Type 0} → ((event : Event) → P event → Q event) → (events : List Event) → AllByRecursion P events
+    → AllByRecursion Q events
 each turn [] are = tt
 each turn (event ∷ events) are = (turn event are.0, each turn events are.1)
 
@@ -149,11 +170,13 @@ drill-own seed events session is = each own session.events is.own
 pub drill-unheld : (seed events : ℕ) (session : Session) → IsDrill seed events session → HasNoHolds session
 drill-unheld seed events session is = each unheld session.events is.own
 
-pub drill-told : (seed events : ℕ) (session : Session) → IsDrill seed events session → ((made : ℕ) → PicksAll made) → IsToldAll session
+pub drill-told : (seed events : ℕ) (session : Session) → IsDrill seed events session → ((made : ℕ) → PicksAll made)
+    → IsToldAll session
 drill-told seed events session is picks = record {
   first = is.drawn;
   last = last_events is.made;
   events = is.events;
   deliveries = (tt, (tt, (tt, (tt, tt))));
-  told = λ at message within some. told-last session.replicas is.made at message is.replicas within (subst (λ n. message < n) (sym is.messages) some) (picks is.made);
+  told = λ at message within some. told-last session.replicas is.made at message is.replicas within
+      (subst (λ n. message < n) (sym is.messages) some) (picks is.made);
 }

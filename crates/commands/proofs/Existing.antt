@@ -39,10 +39,12 @@ use Rattle.commands.proofs.Scenes.{ScenesLead-more}
 
 -- ---- the scenes of an input, or its first faulty text
 abbrev Held : List ℕ → Type 0
-Held bytes = ((scenes : List Scene) × HasScenes bytes scenes) ⊎ ((number : ℕ) × (found : SceneFault) × HasFaultyText bytes number found)
+Held bytes = ((scenes : List Scene) × HasScenes bytes scenes)
+    ⊎ ((number : ℕ) × (found : SceneFault) × HasFaultyText bytes number found)
 
 -- whether no more is to be read: there is a scene, and white space alone is left
-ended-or-not : (bytes : List ℕ) (scenes : List Scene) → ((scenes ≢ []) × (is_blank bytes ≡ true)) ⊎ ((scenes ≡ []) ⊎ (is_blank bytes ≡ false))
+ended-or-not : (bytes : List ℕ) (scenes : List Scene) → ((scenes ≢ []) × (is_blank bytes ≡ true))
+    ⊎ ((scenes ≡ []) ⊎ (is_blank bytes ≡ false))
 ended-or-not bytes [] = inr (inl refl)
 ended-or-not bytes (scene ∷ scenes) = elim (Runs-either is_space bytes) [
   | inl all ↦ inl (λ e. cc, all.0)
@@ -50,21 +52,39 @@ ended-or-not bytes (scene ∷ scenes) = elim (Runs-either is_space bytes) [
 ]
 
 -- one text more, and what comes behind it
-next-text : (bytes : List ℕ) (at : ℕ) (scenes : List Scene) → at ≤ length bytes → ScenesLead bytes scenes (drop at bytes)
+next-text : (bytes : List ℕ) (at : ℕ) (scenes : List Scene) → at ≤ length bytes
+    → ScenesLead bytes scenes (drop at bytes)
     → ((scene : Scene) (end : ℕ) → StandsAt bytes at scene end → Held bytes) → Held bytes
 next-text bytes at scenes within lead onward = by (ended-or-not (drop at bytes) scenes) (scene-or-fault bytes at within)
   where
     by : ((scenes ≢ []) × (is_blank (drop at bytes) ≡ true)) ⊎ ((scenes ≡ []) ⊎ (is_blank (drop at bytes) ≡ false))
-        → ((scene : Scene) × (end : ℕ) × StandsAt bytes at scene end) ⊎ ((found : SceneFault) × IsSceneFaultAt bytes at found) → Held bytes
+        → ((scene : Scene) × (end : ℕ) × StandsAt bytes at scene end)
+        ⊎ ((found : SceneFault) × IsSceneFaultAt bytes at found) → Held bytes
     by (inl (some, blank)) next = inl (scenes, record { some = some; rest = drop at bytes; lead = lead; space = blank })
     by (inr begun) (inr (found, is)) =
-        inr (length scenes + 1, found, record { scenes = scenes; start = at; within = within; lead = lead; counted = refl; begun = begun; faulty = is })
+        inr (
+          length scenes + 1,
+          found,
+          record {
+            scenes = scenes;
+            start = at;
+            within = within;
+            lead = lead;
+            counted =
+                refl;
+            begun = begun;
+            faulty = is;
+          },
+        )
     by (inr begun) (inl (scene, end, s)) = onward scene end s
 
-held-from : (bytes : List ℕ) (left at : ℕ) (scenes : List Scene) → at ≤ length bytes → length bytes ≤ at + left → ScenesLead bytes scenes (drop at bytes) → Held bytes
-held-from bytes zero at scenes within near lead = next-text bytes at scenes within lead (λ scene end s. absurd (omega (arith, s.behind, s.within)))
+held-from : (bytes : List ℕ) (left at : ℕ) (scenes : List Scene) → at ≤ length bytes → length bytes ≤ at + left
+    → ScenesLead bytes scenes (drop at bytes) → Held bytes
+held-from bytes zero at scenes within near lead =
+    next-text bytes at scenes within lead (λ scene end s. absurd (omega (arith, s.behind, s.within)))
 held-from bytes (suc left) at scenes within near lead = next-text bytes at scenes within lead (λ scene end s.
-    held-from bytes left end (scenes ++ scene ∷ []) s.within (omega (arith, s.behind)) (ScenesLead-more bytes (drop at bytes) (drop end bytes) scenes scene lead s.stands))
+    held-from bytes left end (scenes ++ scene ∷ []) s.within (omega (arith, s.behind))
+    (ScenesLead-more bytes (drop at bytes) (drop end bytes) scenes scene lead s.stands))
 
 held : (bytes : List ℕ) → Held bytes
 held bytes = held-from bytes (length bytes) 0 [] (omega arith) (omega arith) refl
@@ -84,10 +104,12 @@ board-exists scenes =
     let stored = stored-exist (updates_of scenes) in
     (head.0, stored.0, record { joined = head.1; stores = stored.1 })
 
-shown-exists : (layout : Layout) (scenes : List Scene) → AllByRecursion HasText scenes → (text : List ℕ) × IsShownAs scenes layout text
+shown-exists : (layout : Layout) (scenes : List Scene) → AllByRecursion HasText scenes → (text : List ℕ)
+    × IsShownAs scenes layout text
 shown-exists layout scenes read =
     let (head, stored, board) = board-exists scenes in
-    let written = written-exists layout (scene_text head (shown_of stored)) (shown-compact scenes head stored read board.joined board.stores) in (
+    let written = written-exists layout (scene_text head (shown_of stored))
+    (shown-compact scenes head stored read board.joined board.stores) in (
       written.0 ++ newline,
       record {
         head = head;
@@ -113,7 +135,8 @@ told-exists entry is = elim (picture-exists entry (Value-deeper (lit≤ tt) is))
   | inr (inr none) ↦ (codes "no data url", no_data_url none)
 ]
 
-lines-exist : (files : List Pair) → AllByRecursion (λ (file : Pair). IsCompact 126 file.1) files → (text : List ℕ) × AreLines files text
+lines-exist : (files : List Pair) → AllByRecursion (λ (file : Pair). IsCompact 126 file.1) files → (text : List ℕ)
+    × AreLines files text
 lines-exist [] nest = ([], refl)
 lines-exist (file ∷ files) nest =
     let told = told-exists file.1 nest.0 in
@@ -123,24 +146,28 @@ lines-exist (file ∷ files) nest =
 pictures-exist : (scenes : List Scene) → AllByRecursion HasText scenes → (text : List ℕ) × HasPictures scenes text
 pictures-exist scenes read =
     let (head, stored, board) = board-exists scenes in
-    let lines = lines-exist (referred_files head.files (shown_of stored)) (shown-files scenes head stored read board.joined board.stores) in
+    let lines = lines-exist (referred_files head.files (shown_of stored))
+    (shown-files scenes head stored read board.joined board.stores) in
     (lines.0, record { head = head; stored = stored; board = board; lines = lines.1 })
 
 -- ---- answers
 abbrev IsAnswered : Command → List ℕ → Type 0
 IsAnswered command bytes = (answer : Result (List ℕ) Refusal) × IsAnswer command bytes answer
 
-made-or-refused : (IsOf : List Scene → List ℕ → Type 0) (bytes : List ℕ) → ((scenes : List Scene) → AllByRecursion HasText scenes → (text : List ℕ) × IsOf scenes text)
+made-or-refused : (IsOf : List Scene → List ℕ → Type 0) (bytes : List ℕ)
+    → ((scenes : List Scene) → AllByRecursion HasText scenes → (text : List ℕ) × IsOf scenes text)
     → ((text : List ℕ) × IsMadeOf IsOf bytes text) ⊎ ((found : Refusal) × IsRefusal bytes found)
 made-or-refused IsOf bytes make = elim (held bytes) [
   | inl (scenes, has) ↦ let made = make scenes (held-texts bytes scenes has) in inl (made.0, (scenes, has, made.1))
   | inr (number, found, faulty) ↦ inr (refusal.Text number found, (number, found, refl, faulty))
 ]
 
-restored : (layout : Layout) (bytes : List ℕ) (scene : Scene) (end : ℕ) → StandsAt bytes 0 scene end → IsAnswered (Restore layout) bytes
+restored : (layout : Layout) (bytes : List ℕ) (scene : Scene) (end : ℕ) → StandsAt bytes 0 scene end
+    → IsAnswered (Restore layout) bytes
 restored layout bytes scene end s = elim (Runs-either is_space (drop end bytes)) [
   | inl blank ↦
-      let has : HasScenes bytes (scene ∷ []) = record { some = λ e. cc; rest = drop end bytes; lead = (drop end bytes, s.stands, refl); space = blank.0 } in
+      let has : HasScenes bytes (scene ∷ []) =
+      record { some = λ e. cc; rest = drop end bytes; lead = (drop end bytes, s.stands, refl); space = blank.0 } in
       let made = shown-exists layout (scene ∷ []) (held-texts bytes (scene ∷ []) has) in
       (Ok made.0, (scene, has, made.1))
   | inr more ↦ (
@@ -159,27 +186,39 @@ restored layout bytes scene end s = elim (Runs-either is_space (drop end bytes))
   )
 ]
 
-pub answer-exists : AreAnswered → AreWhole → (command : Command) (bytes : List ℕ) → HasNames command → IsAnswered command bytes
+pub answer-exists : AreAnswered → AreWhole → (command : Command) (bytes : List ℕ) → HasNames command
+    → IsAnswered command bytes
 answer-exists answered whole (Restore layout) bytes names = elim (scene-or-fault bytes 0 (omega arith)) [
   | inl (scene, end, s) ↦ restored layout bytes scene end s
   | inr (found, is) ↦ (Err (refusal.Text 1 found), inl (found, refl, is))
 ]
-answer-exists answered whole (Merge layout) bytes names = elim (made-or-refused (λ scenes. IsShownAs scenes layout) bytes (shown-exists layout)) [
-  | inl (text, made) ↦ (Ok text, made)
-  | inr (found, is) ↦ (Err found, is)
-]
-answer-exists answered whole State bytes names = elim (made-or-refused IsStoredAs bytes (λ scenes read. state-exists scenes)) [
-  | inl (text, made) ↦ (Ok text, made)
-  | inr (found, is) ↦ (Err found, is)
-]
+answer-exists answered whole (Merge layout) bytes names =
+    elim (made-or-refused (λ scenes. IsShownAs scenes layout) bytes (shown-exists layout)) [
+      | inl (text, made) ↦ (Ok text, made)
+      | inr (found, is) ↦ (Err found, is)
+    ]
+answer-exists answered whole State bytes names =
+    elim (made-or-refused IsStoredAs bytes (λ scenes read. state-exists scenes)) [
+      | inl (text, made) ↦ (Ok text, made)
+      | inr (found, is) ↦ (Err found, is)
+    ]
 answer-exists answered whole Pictures bytes names = elim (made-or-refused HasPictures bytes pictures-exist) [
   | inl (text, made) ↦ (Ok text, made)
   | inr (found, is) ↦ (Err found, is)
 ]
 answer-exists answered whole Replay bytes names = elim (session-or-fault bytes) [
   | inl (session, read) ↦
-      let report = report-exists session in
-      (Ok (report.0 ++ newline), record { session = session; read = read; written = report.0; report = report.1; ended = refl })
+      let report = report-exists session in (
+        Ok (report.0 ++ newline),
+        record {
+          session = session;
+          read = read;
+          written = report.0;
+          report = report.1;
+          ended =
+              refl;
+        },
+      )
   | inr (fault, is) ↦ (Err (session_refusal fault), (fault, refl, is))
 ]
 answer-exists answered whole (Recover form) bytes names = recovered-exists answered whole form bytes

@@ -14,7 +14,10 @@ use Rattle.commands.proofs.Runs.{Runs-either}
 behind-exists : (bytes : List ℕ) (after : ℕ) → after ≤ length bytes → (more : Option ℕ) × IsBehind bytes after more
 behind-exists bytes after within = elim (Runs-either is_space (drop after bytes)) [
   | inl all ↦ (None, all.0)
-  | inr some ↦ (Some (after + prefix_len is_space (drop after bytes)), (refl, omega (arith, some.1, length-drop after bytes, within)))
+  | inr some ↦ (
+    Some (after + prefix_len is_space (drop after bytes)),
+    (refl, omega (arith, some.1, length-drop after bytes, within)),
+  )
 ]
 
 -- A front, or why there is none.

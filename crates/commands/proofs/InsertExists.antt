@@ -39,15 +39,18 @@ same-placed place [] = refl
 same-placed place (e ∷ elements) = ap (λ es. e ∷ es) (same-placed (suc place) elements)
 
 clip-whole : (item : Item) → IsWholeItem item → All IsWholeElement (clip_of item).elements
-clip-whole item is = live-all IsWholeElement (placed_from 0 item.elements) (subst (All IsWholeElement) (same-placed 0 item.elements) (item-elements item is))
+clip-whole item is = live-all IsWholeElement (placed_from 0 item.elements)
+    (subst (All IsWholeElement) (same-placed 0 item.elements) (item-elements item is))
 
 -- ---- answers
 module _ (insertion : Insertion) (bytes : List ℕ) (names : is_name insertion.prefix ≡ true) where
   abbrev IsAnswered : Type 0
   IsAnswered = (answer : Result (List ℕ) Refusal) × IsAnswer (Insert insertion) bytes answer
 
-  with-item : (scene : Scene) (text : List ℕ) → HasFront bytes scene text None → (items : List Item) → IsLibraryOf text items → (item : Item) → IsBestOfId items insertion.item item → IsAnswered
-  with-item scene text front items read item best = by (first_stored board.1 (copies_of (clip_of item).elements insertion.prefix) (clip_of item).places) refl
+  with-item : (scene : Scene) (text : List ℕ) → HasFront bytes scene text None → (items : List Item)
+      → IsLibraryOf text items → (item : Item) → IsBestOfId items insertion.item item → IsAnswered
+  with-item scene text front items read item best =
+      by (first_stored board.1 (copies_of (clip_of item).elements insertion.prefix) (clip_of item).places) refl
     where
       board : (head : Heading) × (stored : List ElementValue) × IsBoardOf (scene ∷ []) head stored
       board = scene-board scene
@@ -55,10 +58,22 @@ module _ (insertion : Insertion) (bytes : List ℕ) (names : is_name insertion.p
       whole : All IsWholeElement (clip_of item).elements
       whole = clip-whole item (All-contains IsWholeItem items item (library-whole text items read) best.0.among)
 
-      by : (place : Option ℕ) → first_stored board.1 (copies_of (clip_of item).elements insertion.prefix) (clip_of item).places ≡ place → IsAnswered
+      by : (place : Option ℕ) → first_stored board.1 (copies_of (clip_of item).elements insertion.prefix)
+          (clip_of item).places ≡ place → IsAnswered
       by None new =
-          let made = pasted_as-exists insertion.prefix scene (clip_of item) board.0 board.1 (name-utf8 insertion.prefix names) (front.first.text, front.first.says) whole tt board.2 new in
-          (Ok made.0, record { scene = scene; items = items; holds = (text, front, read); item = item; best = best; is = made.1 })
+          let made = pasted_as-exists insertion.prefix scene (clip_of item) board.0 board.1
+          (name-utf8 insertion.prefix names) (front.first.text, front.first.says) whole tt board.2 new in (
+            Ok made.0,
+            record {
+              scene = scene;
+              items = items;
+              holds = (text, front, read);
+              item = item;
+              best = best;
+              is =
+                  made.1;
+            },
+          )
       by (Some place) exists = (
         Err (refusal.Exists place),
         inr (inr (
@@ -75,15 +90,18 @@ module _ (insertion : Insertion) (bytes : List ℕ) (names : is_name insertion.p
         )),
       )
 
-  with-library : (scene : Scene) (text : List ℕ) (more : Option ℕ) → HasFront bytes scene text more → (items : List Item) → IsLibraryOf text items → IsAnswered
-  with-library scene text (Some at) front items read = (Err (refusal.Extra at), inl (inr (inr (at, refl, (scene, text, front, (items, read))))))
+  with-library : (scene : Scene) (text : List ℕ) (more : Option ℕ) → HasFront bytes scene text more
+      → (items : List Item) → IsLibraryOf text items → IsAnswered
+  with-library scene text (Some at) front items read =
+      (Err (refusal.Extra at), inl (inr (inr (at, refl, (scene, text, front, (items, read))))))
   with-library scene text None front items read = by (item_of best.0 insertion.item) refl
     where
       best : (best : List Item) × AreBest items best
       best = best-exist items
 
       by : (found : Option Item) → item_of best.0 insertion.item ≡ found → IsAnswered
-      by (Some item) is = with-item scene text front items read item (best-found items best.0 insertion.item item best.1 is)
+      by (Some item) is =
+          with-item scene text front items read item (best-found items best.0 insertion.item item best.1 is)
       by None none = (
         Err refusal.NoItem,
         inr (inl (

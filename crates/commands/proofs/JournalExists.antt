@@ -65,14 +65,20 @@ lone line text other rest is stands = subst (StandsAlone line) (sym (Stands-once
 abbrev FirstLine : List ℕ → Type 0
 FirstLine line = ((s : Scene) × IsSceneReadAs line (Ok s)) ⊎ ((fault : SceneFault) × IsSceneReadAs line (Err fault))
 
-lone-fault : (line text : List ℕ) (fault : SceneFault) → StandsAlone line text → IsSceneFaultAt line 0 fault → IsSceneReadAs line (Err fault)
+lone-fault : (line text : List ℕ) (fault : SceneFault) → StandsAlone line text → IsSceneFaultAt line 0 fault
+    → IsSceneReadAs line (Err fault)
 lone-fault line text (scene.Json fault) is first = inl first
-lone-fault line text scene.NotObject is (other, rest, stands, fault) = (other, lone line text other rest is stands, fault)
-lone-fault line text scene.NotScene is (other, rest, stands, fault) = (other, lone line text other rest is stands, fault)
-lone-fault line text scene.Elements is (other, rest, stands, fault) = (other, lone line text other rest is stands, fault)
-lone-fault line text scene.AppState is (other, rest, stands, fault) = (other, lone line text other rest is stands, fault)
+lone-fault line text scene.NotObject is (other, rest, stands, fault) =
+    (other, lone line text other rest is stands, fault)
+lone-fault line text scene.NotScene is (other, rest, stands, fault) =
+    (other, lone line text other rest is stands, fault)
+lone-fault line text scene.Elements is (other, rest, stands, fault) =
+    (other, lone line text other rest is stands, fault)
+lone-fault line text scene.AppState is (other, rest, stands, fault) =
+    (other, lone line text other rest is stands, fault)
 lone-fault line text scene.Files is (other, rest, stands, fault) = (other, lone line text other rest is stands, fault)
-lone-fault line text (scene.Element place why) is (other, rest, stands, fault) = (other, lone line text other rest is stands, fault)
+lone-fault line text (scene.Element place why) is (other, rest, stands, fault) =
+    (other, lone line text other rest is stands, fault)
 
 first-line : AreAnswered → (line : List ℕ) → FirstLine line
 first-line answered line = by (alone line (answered line).0 (answered line).1)
@@ -80,12 +86,20 @@ first-line answered line = by (alone line (answered line).0 (answered line).1)
     by : Alone line → FirstLine line
     by (inl (fault, is)) = inr (scene.Json fault, is)
     by (inr (text, is)) = elim (scene-or-fault line 0 (omega arith)) [
-      | inl (s, end, at) ↦ inl (s, (at.stands.text, lone line text at.stands.text _ is at.stands.stands, at.stands.says))
+      | inl (s, end, at) ↦ inl (
+        s,
+        (
+          at.stands.text,
+          lone line text at.stands.text _ is at.stands.stands,
+          at.stands.says,
+        ),
+      )
       | inr (fault, at) ↦ inr (fault, lone-fault line text fault is at)
     ]
 
 abbrev FurtherLine : List ℕ → Type 0
-FurtherLine line = ((elements : List ElementValue) × IsReadAs line (Ok (Update elements))) ⊎ ((fault : LineFault) × IsUpdateLineFault line fault)
+FurtherLine line = ((elements : List ElementValue) × IsReadAs line (Ok (Update elements)))
+    ⊎ ((fault : LineFault) × IsUpdateLineFault line fault)
 
 further-line : (line : List ℕ) (answer : Result Message MsgFault) → IsReadAs line answer → FurtherLine line
 further-line line (Ok (Update elements)) is = inl (elements, is)
@@ -113,7 +127,16 @@ further answered [] = inl ([], tt)
 further answered (line ∷ lines) = by (further-line line (answered line).0 (answered line).1) (further answered lines)
   where
     by : FurtherLine line → Further lines → Further (line ∷ lines)
-    by (inr (fault, is)) rest = inr (record { before = []; line = line; after = lines; parts = refl; messages = []; updates = tt; fault = fault; faulty = is })
+    by (inr (fault, is)) rest = inr (record {
+      before = [];
+      line = line;
+      after = lines;
+      parts = refl;
+      messages = [];
+      updates = tt;
+      fault = fault;
+      faulty = is;
+    })
     by (inl (elements, is)) (inl (messages, are)) = inl (elements ∷ messages, (is, are))
     by (inl (elements, is)) (inr stopped) = inr (record {
       before = line ∷ stopped.before;
@@ -129,10 +152,22 @@ further answered (line ∷ lines) = by (further-line line (answered line).0 (ans
 abbrev Kept : List (List ℕ) → Type 0
 Kept lines = (head : Heading) × (elements : List ElementValue) × AreKept lines head elements
 
-opened : (first : List ℕ) (others : List (List ℕ)) (s : Scene) (messages : List (List ElementValue)) → IsSceneReadAs first (Ok s) → AreUpdates others messages → Kept (first ∷ others)
+opened : (first : List ℕ) (others : List (List ℕ)) (s : Scene) (messages : List (List ElementValue))
+    → IsSceneReadAs first (Ok s) → AreUpdates others messages → Kept (first ∷ others)
 opened first others s messages read updates =
-    let stored = stored-exist (s.elements ++ flat_map (λ es. es) messages) in
-    (s.head, stored.0, record { scene = s; read = read; is_head = refl; messages = messages; updates = updates; stored = stored.1 })
+    let stored = stored-exist (s.elements ++ flat_map (λ es. es) messages) in (
+      s.head,
+      stored.0,
+      record {
+        scene = s;
+        read = read;
+        is_head = refl;
+        messages = messages;
+        updates = updates;
+        stored =
+            stored.1;
+      },
+    )
 
 abbrev Judged : List (List ℕ) → Type 0
 Judged lines = Kept lines ⊎ ((number : ℕ) × (fault : LineFault) × HasFaultyLine lines number fault)
@@ -172,16 +207,20 @@ judged answered (first ∷ others) = by (first-line answered first) (further ans
 
 -- ---- what is told
 -- the ids of what is recovered rise
-kept-rise : (lines : List (List ℕ)) (head : Heading) (elements : List ElementValue) → AreKept lines head elements → are_rising (ids_of elements) ≡ true
+kept-rise : (lines : List (List ℕ)) (head : Heading) (elements : List ElementValue) → AreKept lines head elements
+    → are_rising (ids_of elements) ≡ true
 kept-rise [] head elements kept = subst (λ es. are_rising (ids_of es) ≡ true) (sym kept.1) refl
 kept-rise (first ∷ others) head elements kept = kept.stored.ordered
 
-told-exists : (f : Form) (head : Heading) (elements : List ElementValue) → IsWholeHead head → All IsWholeElement elements → are_rising (ids_of elements) ≡ true
+told-exists : (f : Form) (head : Heading) (elements : List ElementValue) → IsWholeHead head
+    → All IsWholeElement elements → are_rising (ids_of elements) ≡ true
     → (text : List ℕ) × IsToldAs f head elements text
 told-exists form.State head elements whole each rise = (state_text head elements ++ newline, refl)
-told-exists form.Scene head elements whole each rise = scene-exists Compact head elements (whole-fits head whole) whole.settings_ordered (wholes-kept elements each) rise
+told-exists form.Scene head elements whole each rise =
+    scene-exists Compact head elements (whole-fits head whole) whole.settings_ordered (wholes-kept elements each) rise
 
-pub recovered-exists : AreAnswered → AreWhole → (f : Form) (bytes : List ℕ) → (answer : Result (List ℕ) Refusal) × IsAnswer (Recover f) bytes answer
+pub recovered-exists : AreAnswered → AreWhole → (f : Form) (bytes : List ℕ) → (answer : Result (List ℕ) Refusal)
+    × IsAnswer (Recover f) bytes answer
 recovered-exists answered whole f bytes = by (judged answered (lines_of bytes))
   where
     by : Judged (lines_of bytes) → (answer : Result (List ℕ) Refusal) × IsAnswer (Recover f) bytes answer

@@ -46,7 +46,13 @@ given message = Ok message
 more-alone : (bytes text : List ℕ) (at : ℕ) → HasMore bytes at → StandsAlone bytes text → ⊥
 more-alone bytes text at more alone =
     let rest = (Stands-once more.stands alone.stands).1 in
-    absurd (omega (arith, more.behind, more.more, blank-whole bytes more.after (ap is_blank rest ∙ alone.space) more.within))
+    absurd (omega (
+      arith,
+      more.behind,
+      more.more,
+      blank-whole bytes more.after (ap is_blank rest
+          ∙ alone.space) more.within,
+    ))
 
 unread-alone : (line text : List ℕ) (fault : JsonFault) → IsReadAs line (unread fault) → StandsAlone line text → ⊥
 unread-alone line text fault (inl first) alone = first.faulty text alone.rest alone.stands
@@ -64,7 +70,8 @@ told-so line NotScene (text, alone, is) = told NotScene text alone (text, alone.
 told-so line Elements (text, alone, is) = told Elements text alone (text, alone.rest, alone.stands, is)
 told-so line AppState (text, alone, is) = told AppState text alone (text, alone.rest, alone.stands, is)
 told-so line Files (text, alone, is) = told Files text alone (text, alone.rest, alone.stands, is)
-told-so line (Element place why) (text, alone, is) = told (Element place why) text alone (text, alone.rest, alone.stands, is)
+told-so line (Element place why) (text, alone, is) =
+    told (Element place why) text alone (text, alone.rest, alone.stands, is)
 
 told-once : (line : List ℕ) (f g : SceneFault) → Told line f → Told line g → f ≡ g
 told-once line f g (untold a is) (untold b also) =
@@ -74,7 +81,8 @@ told-once line f g (told a text alone is) (untold b also) = absurd (unread-alone
 told-once line f g (told a text alone is) (told b other lone also) = fault-once line 0 a b is also
 
 scene-line-once : (line : List ℕ) (f g : LineFault) → IsSceneLineFault line f → IsSceneLineFault line g → f ≡ g
-scene-line-once line (SceneLine f) (SceneLine g) is also = ap SceneLine (told-once line f g (told-so line f is) (told-so line g also))
+scene-line-once line (SceneLine f) (SceneLine g) is also =
+    ap SceneLine (told-once line f g (told-so line f is) (told-so line g also))
 scene-line-once line (SceneLine f) (MessageLine g) is also = absurd also
 scene-line-once line (SceneLine f) Other is also = absurd also
 scene-line-once line (MessageLine f) g is also = absurd is
@@ -93,7 +101,8 @@ update-line-once line Other (MessageLine g) (message, read, other) also =
     let same : refused g ≡ given message = answer-once line (refused g) (given message) also read in cc
 update-line-once line Other Other is also = refl
 
-line-once : (before : List (List ℕ)) (line : List ℕ) (f g : LineFault) → IsLineFault before line f → IsLineFault before line g → f ≡ g
+line-once : (before : List (List ℕ)) (line : List ℕ) (f g : LineFault) → IsLineFault before line f
+    → IsLineFault before line g → f ≡ g
 line-once [] line f g is also = scene-line-once line f g is also
 line-once (first ∷ before) line f g is also = update-line-once line f g is also
 
@@ -101,7 +110,8 @@ line-once (first ∷ before) line f g is also = update-line-once line f g is als
 -- Two places in a list are one, or the one stands before the other.
 abbrev Places : List (List ℕ) → List ℕ → List (List ℕ) → List ℕ → Type 0
 Places a x c y =
-    ((a ≡ c) × (x ≡ y)) ⊎ (((rest : List (List ℕ)) × (c ≡ a ++ x ∷ rest)) ⊎ ((rest : List (List ℕ)) × (a ≡ c ++ y ∷ rest)))
+    ((a ≡ c) × (x ≡ y)) ⊎ (((rest : List (List ℕ)) × (c ≡ a ++ x ∷ rest))
+    ⊎ ((rest : List (List ℕ)) × (a ≡ c ++ y ∷ rest)))
 
 heads-same : (x y : List ℕ) (xs ys : List (List ℕ)) → x ∷ xs ≡ y ∷ ys → (x ≡ y) × (xs ≡ ys)
 heads-same x y xs ys e = (cc, cc)
@@ -121,7 +131,8 @@ places (z ∷ a) b (w ∷ c) d x y e = by (places a b c d x y both.1)
     by (inr (inr (rest, is))) = inr (inr (rest, ap₂ (λ v vs. v ∷ vs) both.0 is))
 
 -- no line is faulty among those that are kept
-faulty-before : (lines others : List (List ℕ)) (n m : ℕ) (f g : LineFault) (one : HasFaultyLine lines n f) (two : HasFaultyLine others m g) (rest : List (List ℕ))
+faulty-before : (lines others : List (List ℕ)) (n m : ℕ) (f g : LineFault) (one : HasFaultyLine lines n f)
+    (two : HasFaultyLine others m g) (rest : List (List ℕ))
     → two.before ≡ one.before ++ one.line ∷ rest → ⊥
 faulty-before lines others n m f g one two rest is =
     let (head, elements, kept) = two.sound in
@@ -135,34 +146,46 @@ faulty-before lines others n m f g one two rest is =
       faulty = one.faulty;
     })
 
-faulty-once : (lines : List (List ℕ)) (n m : ℕ) (f g : LineFault) → HasFaultyLine lines n f → HasFaultyLine lines m g → (n ≡ m) × (f ≡ g)
-faulty-once lines n m f g one two = by (places one.before one.after two.before two.after one.line two.line (sym one.parts ∙ two.parts))
+faulty-once : (lines : List (List ℕ)) (n m : ℕ) (f g : LineFault) → HasFaultyLine lines n f → HasFaultyLine lines m g
+    → (n ≡ m) × (f ≡ g)
+faulty-once lines n m f g one two =
+    by (places one.before one.after two.before two.after one.line two.line (sym one.parts ∙ two.parts))
   where
     by : Places one.before one.line two.before two.line → (n ≡ m) × (f ≡ g)
     by (inl (same, also)) = (
       one.counted ∙ (ap (λ (b : List (List ℕ)). length b + 1) same ∙ sym two.counted),
-      line-once two.before two.line f g (subst (λ b. IsLineFault b two.line f) same (subst (λ l. IsLineFault one.before l f) also one.faulty)) two.faulty,
+      line-once two.before two.line f g (subst (λ b. IsLineFault b two.line f) same
+          (subst (λ l. IsLineFault one.before l f) also one.faulty)) two.faulty,
     )
     by (inr (inl (rest, is))) = absurd (faulty-before lines lines n m f g one two rest is)
     by (inr (inr (rest, is))) = absurd (faulty-before lines lines m n g f two one rest is)
 
 -- ---- what is told
-pub journal-refusal-once : (bytes : List ℕ) (f g : Refusal) → IsJournalRefusal bytes f → IsJournalRefusal bytes g → f ≡ g
+pub journal-refusal-once : (bytes : List ℕ) (f g : Refusal) → IsJournalRefusal bytes f → IsJournalRefusal bytes g
+    → f ≡ g
 journal-refusal-once bytes f g (number, fault, is, faulty) (other, why, also, wrong) =
     let same = faulty-once (lines_of bytes) number other fault why faulty wrong in
     is ∙ (ap₂ refusal.Line same.0 same.1 ∙ sym also)
 
-pub journal-refusal-none : (bytes : List ℕ) (f : Refusal) (found : Recovered) → IsJournalRefusal bytes f → IsRecoveredAs bytes (Ok found) → ⊥
-journal-refusal-none bytes f found (number, fault, is, faulty) kept = kept-sound (lines_of bytes) found.head found.elements number fault kept faulty
+pub journal-refusal-none : (bytes : List ℕ) (f : Refusal) (found : Recovered) → IsJournalRefusal bytes f
+    → IsRecoveredAs bytes (Ok found) → ⊥
+journal-refusal-none bytes f found (number, fault, is, faulty) kept =
+    kept-sound (lines_of bytes) found.head found.elements number fault kept faulty
 
-told-text-once : (f : Form) (head other : Heading) (stored news : List ElementValue) (a b : List ℕ) → head ≡ other → stored ≡ news → IsToldAs f head stored a → IsToldAs f other news b → a ≡ b
-told-text-once form.State head other stored news a b same kept one two = one ∙ (ap₂ (λ h s. state_text h s ++ newline) same kept ∙ sym two)
-told-text-once form.Scene head other stored news a b same kept one two = scene-once Compact head other stored news a b same kept one two
+told-text-once : (f : Form) (head other : Heading) (stored news : List ElementValue) (a b : List ℕ) → head ≡ other
+    → stored ≡ news → IsToldAs f head stored a → IsToldAs f other news b → a ≡ b
+told-text-once form.State head other stored news a b same kept one two =
+    one ∙ (ap₂ (λ h s. state_text h s ++ newline) same kept ∙ sym two)
+told-text-once form.Scene head other stored news a b same kept one two =
+    scene-once Compact head other stored news a b same kept one two
 
-pub recovered-once : (f : Form) (bytes : List ℕ) (answer other : Result (List ℕ) Refusal) → IsAnswer (Recover f) bytes answer → IsAnswer (Recover f) bytes other → answer ≡ other
+pub recovered-once : (f : Form) (bytes : List ℕ) (answer other : Result (List ℕ) Refusal)
+    → IsAnswer (Recover f) bytes answer → IsAnswer (Recover f) bytes other → answer ≡ other
 recovered-once f bytes (Ok a) (Ok b) is also =
-    let same = kept-once (lines_of bytes) is.found.head also.found.head is.found.elements also.found.elements is.read also.read in
-    ap Ok (told-text-once f is.found.head also.found.head is.found.elements also.found.elements a b same.0 same.1 is.told also.told)
+    let same = kept-once (lines_of bytes) is.found.head also.found.head is.found.elements also.found.elements is.read
+    also.read in
+    ap Ok (told-text-once f is.found.head also.found.head is.found.elements also.found.elements a b same.0 same.1
+    is.told also.told)
 recovered-once f bytes (Ok a) (Err g) is also = absurd (journal-refusal-none bytes g is.found also is.read)
 recovered-once f bytes (Err g) (Ok b) is also = absurd (journal-refusal-none bytes g also.found is also.read)
 recovered-once f bytes (Err g) (Err h) is also = ap Err (journal-refusal-once bytes g h is also)

@@ -18,7 +18,8 @@ pub same-why : (T : Type 0) (a b : Refusal) → stopped-so T (stop.Fault a) ≡ 
 same-why T a b e = cc
 
 -- Bytes that were read are refused, or memory is wanted.
-pub judged-fault : (most : Option ℕ) (IsRefused : List ℕ → Refusal → Type 0) (input : Span SourceEnd) (bytes : List ℕ) → WasRead most input bytes → (s : Stop Refusal)
+pub judged-fault : (most : Option ℕ) (IsRefused : List ℕ → Refusal → Type 0) (input : Span SourceEnd) (bytes : List ℕ)
+    → WasRead most input bytes → (s : Stop Refusal)
     → ((why : Refusal) → s ≡ stop.Fault why → IsRefused bytes why) → IsInputFault most IsRefused input (stopped s)
 judged-fault most IsRefused input bytes read (stop.Fault why) refused = (bytes, read, refused why refl)
 judged-fault most IsRefused input bytes read stop.Memory refused = tt

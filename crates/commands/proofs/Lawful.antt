@@ -4,7 +4,8 @@ use Rattle.commands.specs.Ends.{Span, WasDone}
 use Rattle.commands.specs.Replays.{HasLaws, OfAll, WroteLawfulReport}
 use Rattle.commands.specs.declared.words.Command.TheVariants.{Replay}
 
-pub replay-lawful : OfAll HasLaws → (input : Span SourceEnd) (output : Span SinkEnd) → WasDone Replay input output → WroteLawfulReport input output
+pub replay-lawful : OfAll HasLaws → (input : Span SourceEnd) (output : Span SinkEnd) → WasDone Replay input output
+    → WroteLawfulReport input output
 replay-lawful laws input output done =
     record {
       bytes = done.bytes;

@@ -10,7 +10,8 @@ name-utf8 [] is = cc
 name-utf8 (byte ∷ bytes) is = IsUtf8-from_is_utf8 (byte ∷ bytes) is
 
 -- reading a text succeeds exactly where the test does
-tells : {A E : Type 0} (Q : A → Type 0) (R : E → Type 0) (bytes : List ℕ) (r : Result A E) → MatchResult r (λ s. Q s × IsUtf8 bytes) (λ e. (IsUtf8 bytes → ⊥) × R e) → is_ok r ≡ is_utf8 bytes
+tells : {A E : Type 0} (Q : A → Type 0) (R : E → Type 0) (bytes : List ℕ) (r : Result A E)
+    → MatchResult r (λ s. Q s × IsUtf8 bytes) (λ e. (IsUtf8 bytes → ⊥) × R e) → is_ok r ≡ is_utf8 bytes
 tells Q R bytes (Ok s) is = sym (is_utf8-from_IsUtf8 bytes is.1)
 tells Q R bytes (Err e) is = elim (cases_Bool (is_utf8 bytes)) [
   | inl t ↦ absurd (is.0 (IsUtf8-from_is_utf8 bytes t))
@@ -21,11 +22,13 @@ name-some : (name : List ℕ) → not (length name == 0) ≡ true → is_name na
 name-some [] some = absurd (let e : false ≡ true = some in cc)
 name-some (byte ∷ bytes) some = refl
 
-pub name-tells : {A E : Type 0} (Q : A → Type 0) (R : E → Type 0) (name bytes : List ℕ) (r : Result A E) → bytes ≡ name → not (length name == 0) ≡ true
+pub name-tells : {A E : Type 0} (Q : A → Type 0) (R : E → Type 0) (name bytes : List ℕ) (r : Result A E) → bytes ≡ name
+    → not (length name == 0) ≡ true
     → MatchResult r (λ s. Q s × IsUtf8 bytes) (λ e. (IsUtf8 bytes → ⊥) × R e) → is_ok r ≡ is_name name
 name-tells Q R name bytes r same some is = tells Q R bytes r is ∙ (ap is_utf8 same ∙ sym (name-some name some))
 
 -- a name is read as a text
-pub name-read : (name bytes : List ℕ) (found : Option (List ℕ)) → bytes ≡ name → is_name name ≡ true → MatchOption found (IsUtf8 bytes → ⊥) (λ text. text ≡ bytes) → IsSome found
+pub name-read : (name bytes : List ℕ) (found : Option (List ℕ)) → bytes ≡ name → is_name name ≡ true
+    → MatchOption found (IsUtf8 bytes → ⊥) (λ text. text ≡ bytes) → IsSome found
 name-read name bytes None same is none = absurd (none (subst IsUtf8 (sym same) (name-utf8 name is)))
 name-read name bytes (Some text) same is read = refl

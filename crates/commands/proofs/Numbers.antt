@@ -17,14 +17,16 @@ value-of : (n : ℕ) → n ≤ greatest → digits_value 10 (decimal n) ≡ n
 value-of n h = (decimal_is_IsNumeral n (below n h)).1
 
 -- a word that is the number's decimal is a number exactly if that is within the bounds
-pub number-found : (least most : ℕ) (word : List ℕ) (n : ℕ) → n ≤ greatest → word ≡ decimal n → number_within least most word ≡ (if nat_le least n && nat_le n most then Some n else None)
+pub number-found : (least most : ℕ) (word : List ℕ) (n : ℕ) → n ≤ greatest → word ≡ decimal n
+    → number_within least most word ≡ (if nat_le least n && nat_le n most then Some n else None)
 number-found least most word n small is =
     let value : digits_value 10 word ≡ n = ap (digits_value 10) is ∙ value-of n small in
     let own : bytes_eq word (decimal n) ≡ true = ap (λ w. bytes_eq w (decimal n)) is ∙ bytes_eq-same (decimal n) in
     rw (value, own) refl
 
 -- a word that is no number's decimal is none
-pub number-none : (least most : ℕ) (word : List ℕ) → most ≤ greatest → ((n : ℕ) → n ≤ greatest → word ≡ decimal n → ⊥) → number_within least most word ≡ None
+pub number-none : (least most : ℕ) (word : List ℕ) → most ≤ greatest → ((n : ℕ) → n ≤ greatest → word ≡ decimal n → ⊥)
+    → number_within least most word ≡ None
 number-none least most word small none = elim (cases_Bool (is_number_within least most word)) [
   | inr f ↦ rw f refl
   | inl t ↦

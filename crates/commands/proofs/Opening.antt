@@ -19,7 +19,8 @@ runs : (service : Service) (room : RoomState) → IsService service → end_of s
 runs service room is = rw (above service.limits.events is.events, above service.limits.idle is.idle) refl
 
 -- where they don't listen, the room is served by no event
-pub failed-at_once : (service : Service) (room : RoomState) (a b : LinksEnd) → Tells a b [] [] → IsService service → IsServed service.limits (at_start room) room a b LinkFault
+pub failed-at_once : (service : Service) (room : RoomState) (a b : LinksEnd) → Tells a b [] [] → IsService service
+    → IsServed service.limits (at_start room) room a b LinkFault
 failed-at_once service room a b told is = record {
   rounds = [];
   are_rounds = tt;
@@ -29,7 +30,8 @@ failed-at_once service room a b told is = record {
   told = told;
 }
 
-pub wanted-at_once : (service : Service) (room : RoomState) (a b : LinksEnd) → Tells a b [] [] → IsService service → IsServed service.limits (at_start room) room a b Memory
+pub wanted-at_once : (service : Service) (room : RoomState) (a b : LinksEnd) → Tells a b [] [] → IsService service
+    → IsServed service.limits (at_start room) room a b Memory
 wanted-at_once service room a b told is = record {
   rounds = [];
   are_rounds = tt;
@@ -40,7 +42,8 @@ wanted-at_once service room a b told is = record {
 }
 
 -- where they do, it is served by what they tell after that
-pub served-since : (limits : RoomLimits) (now : Serving) (new : RoomState) (a b c : LinksEnd) (end : ServeEnd) → Tells a b [] [] → IsServed limits now new b c end
+pub served-since : (limits : RoomLimits) (now : Serving) (new : RoomState) (a b c : LinksEnd) (end : ServeEnd)
+    → Tells a b [] [] → IsServed limits now new b c end
     → IsServed limits now new a c end
 served-since limits now new a b c end first served = record {
   rounds = served.rounds;

@@ -42,7 +42,8 @@ use Rattle.commands.proofs.Names.{name-utf8}
 use Rattle.commands.proofs.Shows.{members-fit, scene-exists, wholes-kept}
 
 -- ---- what is pasted
-keyed-kept : (es : List ElementValue) (keys : List (List ℕ)) → list_all is_key keys ≡ true → AreKept es → AreKept (keyed es keys)
+keyed-kept : (es : List ElementValue) (keys : List (List ℕ)) → list_all is_key keys ≡ true → AreKept es
+    → AreKept (keyed es keys)
 keyed-kept [] keys are all = tt
 keyed-kept (e ∷ es) [] are all = tt
 keyed-kept (e ∷ es) (key ∷ keys) are all =
@@ -53,7 +54,8 @@ key-or-none : (index : Option (List ℕ)) → IfSome index (λ k. is_key k ≡ t
 key-or-none None is = refl
 key-or-none (Some key) is = is
 
-nth-key : (es : List ElementValue) (n : ℕ) → AreKept es → is_key_or_none (option_and_then index_of (slice_get es n)) ≡ true
+nth-key : (es : List ElementValue) (n : ℕ) → AreKept es → is_key_or_none (option_and_then index_of (slice_get es n))
+    ≡ true
 nth-key [] n all = refl
 nth-key (e ∷ es) zero all = key-or-none e.index all.0.written.index
 nth-key (e ∷ es) (suc n) all = nth-key es n all.1
@@ -62,31 +64,41 @@ ends-open : (low : Option (List ℕ)) → ends_rise low None ≡ true
 ends-open None = refl
 ends-open (Some key) = refl
 
-pasted-kept : (stored elements : List ElementValue) (prefix : List ℕ) → IsUtf8 prefix → AreKept stored → All IsWholeElement elements → AreKept (pasted stored elements prefix)
+pasted-kept : (stored elements : List ElementValue) (prefix : List ℕ) → IsUtf8 prefix → AreKept stored
+    → All IsWholeElement elements → AreKept (pasted stored elements prefix)
 unfolding pasted
 pasted-kept stored elements prefix utf8 all whole =
     let low = last_key (shown (live_elements stored)) in
     let copies = copies_of elements prefix in
-    let law = keys_between-law low None (length copies) (nth-key (shown (live_elements stored)) _ (shown-kept (live_elements stored) (live-kept stored all))) refl (ends-open low) in
-    keyed-kept copies (keys_between low None (length copies)) law.are_keys (wholes-kept copies (copies-whole elements prefix utf8 whole))
+    let law = keys_between-law low None (length copies)
+    (nth-key (shown (live_elements stored)) _ (shown-kept (live_elements stored) (live-kept stored all))) refl
+    (ends-open low) in
+    keyed-kept copies (keys_between low None (length copies)) law.are_keys
+    (wholes-kept copies (copies-whole elements prefix utf8 whole))
 
 -- the head that has these files alone
 own-head : (entries : List Pair) → (own : Heading) × IsClipHead entries own
 own-head entries =
-    let files = files-exist entries in
-    (record { source = None; app_state = []; files = files.0 }, record { source = refl; app_state = refl; files = files.1 })
+    let files = files-exist entries in (
+      record { source = None; app_state = []; files = files.0 },
+      record { source = refl; app_state = refl; files = files.1 },
+    )
 
 own-fits : (entries : List Pair) (own : Heading) → AllFit entries → IsClipHead entries own → IsFit own
 own-fits entries own all is =
     let given : Heading = record { source = None; app_state = []; files = entries } in
     joined-fits (given ∷ []) own (record { source = tt; settings = tt; files = all }, tt) (record {
       source = is.source;
-      app_state = subst (λ (state : List Pair). AreLeastEntries [] state) (sym (ap pairs is.app_state)) AreLeastEntries-none;
+      app_state =
+          subst (λ (state : List Pair). AreLeastEntries [] state) (sym (ap pairs is.app_state)) AreLeastEntries-none;
       files = subst (λ (es : List Pair). AreLeastEntries es own.files) (sym (append-nil entries)) is.files;
     })
 
-pub pasted_as-exists : (prefix : List ℕ) (scene : Scene) (clip : Clip) (old : Heading) (stored : List ElementValue) → IsUtf8 prefix → HasText scene → All IsWholeElement clip.elements
-    → AllFit (pairs clip.files) → IsBoardOf (scene ∷ []) old stored → first_stored stored (copies_of clip.elements prefix) clip.places ≡ None → (text : List ℕ) × IsPastedAs prefix scene clip text
+pub pasted_as-exists : (prefix : List ℕ) (scene : Scene) (clip : Clip) (old : Heading) (stored : List ElementValue)
+    → IsUtf8 prefix → HasText scene → All IsWholeElement clip.elements
+    → AllFit (pairs clip.files) → IsBoardOf (scene ∷ []) old stored
+    → first_stored stored (copies_of clip.elements prefix) clip.places ≡ None → (text : List ℕ)
+    × IsPastedAs prefix scene clip text
 pasted_as-exists prefix scene clip old stored utf8 read whole files board new =
     let sound = all-sound (scene ∷ []) (read, tt) in
     let updates = updates-kept (scene ∷ []) sound in
@@ -95,11 +107,15 @@ pasted_as-exists prefix scene clip old stored utf8 read whole files board new =
     let own = own-head (pairs clip.files) in
     let heads = heads_of (scene ∷ []) ++ own.0 ∷ [] in
     let head = joined-exists heads in
-    let fit = joined-fits heads head.0 ((heads-fit (scene ∷ []) sound).0, (own-fits (pairs clip.files) own.0 files own.1, tt)) head.1 in
+    let fit = joined-fits heads head.0 (
+      (heads-fit (scene ∷ []) sound).0,
+      (own-fits (pairs clip.files) own.0 files own.1, tt),
+    ) head.1 in
     let taken = updates_of (scene ∷ []) ++ pasted stored clip.elements prefix in
     let all = stored-exist taken in
     let shows = scene-exists Compact head.0 all.0 fit head.1.app_state.ordered
-    (stored-kept taken all.0 (AllByRecursion-append IsKept (updates_of (scene ∷ [])) (pasted stored clip.elements prefix) updates copies) all.1) all.1.ordered in (
+    (stored-kept taken all.0 (AllByRecursion-append IsKept (updates_of (scene ∷ []))
+    (pasted stored clip.elements prefix) updates copies) all.1) all.1.ordered in (
       shows.0,
       record {
         old = old;
@@ -128,8 +144,10 @@ module _ (prefix bytes : List ℕ) (names : is_name prefix ≡ true) where
   abbrev IsAnswered : Type 0
   IsAnswered = (answer : Result (List ℕ) Refusal) × IsAnswer (Paste prefix) bytes answer
 
-  with-clip : (scene : Scene) (text : List ℕ) (more : Option ℕ) → HasFront bytes scene text more → (clip : Clip) → IsClipOf text clip → IsAnswered
-  with-clip scene text (Some at) front clip is = (Err (refusal.Extra at), inl (inr (inr (at, refl, (scene, text, front, (clip, is))))))
+  with-clip : (scene : Scene) (text : List ℕ) (more : Option ℕ) → HasFront bytes scene text more → (clip : Clip)
+      → IsClipOf text clip → IsAnswered
+  with-clip scene text (Some at) front clip is =
+      (Err (refusal.Extra at), inl (inr (inr (at, refl, (scene, text, front, (clip, is))))))
   with-clip scene text None front clip is = by (first_stored board.1 (copies_of clip.elements prefix) clip.places) refl
     where
       board : (head : Heading) × (stored : List ElementValue) × IsBoardOf (scene ∷ []) head stored
@@ -137,7 +155,10 @@ module _ (prefix bytes : List ℕ) (names : is_name prefix ≡ true) where
 
       by : (place : Option ℕ) → first_stored board.1 (copies_of clip.elements prefix) clip.places ≡ place → IsAnswered
       by None new =
-          let made = pasted_as-exists prefix scene clip board.0 board.1 (name-utf8 prefix names) (front.first.text, front.first.says) (clip-whole text clip is)
+          let made = pasted_as-exists prefix scene clip board.0 board.1 (name-utf8 prefix names) (
+            front.first.text,
+            front.first.says,
+          ) (clip-whole text clip is)
           (members-fit (pairs clip.files) (clip-files text clip is)) board.2 new in
           (Ok made.0, record { scene = scene; clip = clip; holds = (text, front, is); is = made.1 })
       by (Some place) exists = (

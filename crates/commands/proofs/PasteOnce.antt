@@ -25,68 +25,106 @@ use Rattle.commands.proofs.FrontOnce.{front-once, second-none, second-once}
 use Rattle.commands.proofs.Shows.{scene-once}
 
 no-clip-once : (text : List ℕ) (f g : Refusal) → IsNoClip text f → IsNoClip text g → f ≡ g
-no-clip-once text f g (fault, is, faulty) (other, also, wrong) = is ∙ (ap refusal.Clip (fault-once text fault other faulty wrong) ∙ sym also)
+no-clip-once text f g (fault, is, faulty) (other, also, wrong) =
+    is ∙ (ap refusal.Clip (fault-once text fault other faulty wrong) ∙ sym also)
 
 clip-none : (text : List ℕ) (f : Refusal) → IsClip text → IsNoClip text f → ⊥
 clip-none text f (clip, read) (fault, is, faulty) = clip-faultless text clip read fault faulty
 
 -- ---- what is pasted
-clip-head-once : (entries : List Pair) (head other : Heading) → IsClipHead entries head → IsClipHead entries other → head ≡ other
+clip-head-once : (entries : List Pair) (head other : Heading) → IsClipHead entries head → IsClipHead entries other
+    → head ≡ other
 clip-head-once entries head other one two =
     let source = one.source ∙ sym two.source in
     let state = one.app_state ∙ sym two.app_state in
     let files = AreLeastEntries-unique entries head.files other.files one.files two.files in
     λ i. record { source = source i; app_state = state i; files = files i }
 
-board-same : {scenes : List Scene} {head other : Heading} {stored news : List ElementValue} → IsBoardOf scenes head stored → IsBoardOf scenes other news → stored ≡ news
-board-same {scenes = scenes} {stored = stored} {news = news} one two = store-unique (updates_of scenes) stored news one.stores two.stores
+board-same : {scenes : List Scene} {head other : Heading} {stored news : List ElementValue}
+    → IsBoardOf scenes head stored → IsBoardOf scenes other news → stored ≡ news
+board-same {scenes = scenes} {stored = stored} {news = news} one two =
+    store-unique (updates_of scenes) stored news one.stores two.stores
 
-pub pasted_as-once : (prefix : List ℕ) (scene : Scene) (clip : Clip) (a b : List ℕ) → IsPastedAs prefix scene clip a → IsPastedAs prefix scene clip b → a ≡ b
+pub pasted_as-once : (prefix : List ℕ) (scene : Scene) (clip : Clip) (a b : List ℕ) → IsPastedAs prefix scene clip a
+    → IsPastedAs prefix scene clip b → a ≡ b
 pasted_as-once prefix scene clip a b one two =
     let stored = board-same one.board two.board in
     let own = clip-head-once (pairs clip.files) one.own two.own one.own_files two.own_files in
-    let head = head-once (subst (λ h. IsJoinedHead (heads_of (scene ∷ []) ++ h ∷ []) one.head) own one.joined) two.joined in
+    let head =
+    head-once (subst (λ h. IsJoinedHead (heads_of (scene ∷ []) ++ h ∷ []) one.head) own one.joined) two.joined in
     let all = store-unique _ one.all two.all
-    (subst (λ s. AreStored (updates_of (scene ∷ []) ++ pasted s clip.elements prefix) one.all) stored one.stores) two.stores in
+    (subst (λ s. AreStored (updates_of (scene ∷ []) ++ pasted s clip.elements prefix) one.all) stored one.stores)
+    two.stores in
     scene-once Compact one.head two.head one.all two.all a b head all one.shown two.shown
 
-pub existing-once : (prefix : List ℕ) (scene : Scene) (clip : Clip) (place other : ℕ) → IsExisting prefix scene clip place → IsExisting prefix scene clip other → place ≡ other
+pub existing-once : (prefix : List ℕ) (scene : Scene) (clip : Clip) (place other : ℕ)
+    → IsExisting prefix scene clip place → IsExisting prefix scene clip other → place ≡ other
 existing-once prefix scene clip place other one two =
     let stored = board-same one.board two.board in
-    let same : Some place ≡ Some other = sym (subst (λ s. first_stored s (copies_of clip.elements prefix) clip.places ≡ Some place) stored one.exists) ∙ two.exists in
+    let same : Some place ≡ Some other =
+    sym (subst (λ s. first_stored s (copies_of clip.elements prefix) clip.places ≡ Some place) stored one.exists)
+    ∙ two.exists in
     cc
 
-pub existing-none : (prefix : List ℕ) (scene : Scene) (clip : Clip) (place : ℕ) (text : List ℕ) → IsExisting prefix scene clip place → IsPastedAs prefix scene clip text → ⊥
+pub existing-none : (prefix : List ℕ) (scene : Scene) (clip : Clip) (place : ℕ) (text : List ℕ)
+    → IsExisting prefix scene clip place → IsPastedAs prefix scene clip text → ⊥
 existing-none prefix scene clip place text one two =
     let stored = board-same one.board two.board in
-    let same : Some place ≡ None = sym (subst (λ s. first_stored s (copies_of clip.elements prefix) clip.places ≡ Some place) stored one.exists) ∙ two.new in
+    let same : Some place ≡ None =
+    sym (subst (λ s. first_stored s (copies_of clip.elements prefix) clip.places ≡ Some place) stored one.exists)
+    ∙ two.new in
     cc
 
 -- ---- answers
-pub pasted-once : (prefix bytes : List ℕ) (answer other : Result (List ℕ) Refusal) → IsAnswer (Paste prefix) bytes answer → IsAnswer (Paste prefix) bytes other → answer ≡ other
+pub pasted-once : (prefix bytes : List ℕ) (answer other : Result (List ℕ) Refusal)
+    → IsAnswer (Paste prefix) bytes answer → IsAnswer (Paste prefix) bytes other → answer ≡ other
 pasted-once prefix bytes (Ok a) (Ok b) one two =
     let same = front-once bytes one.scene two.scene one.holds.0 two.holds.0 None None one.holds.1 two.holds.1 in
-    let clip = clip-once two.holds.0 one.clip two.clip (subst (λ t. IsClipOf t one.clip) same.texts one.holds.2) two.holds.2 in
-    ap Ok (pasted_as-once prefix two.scene two.clip a b (subst (λ s. IsPastedAs prefix s two.clip a) same.scenes (subst (λ c. IsPastedAs prefix one.scene c a) clip one.is)) two.is)
+    let clip =
+    clip-once two.holds.0 one.clip two.clip (subst (λ t. IsClipOf t one.clip) same.texts one.holds.2) two.holds.2 in
+    ap Ok (pasted_as-once prefix two.scene two.clip a b (subst (λ s. IsPastedAs prefix s two.clip a) same.scenes
+    (subst (λ c. IsPastedAs prefix one.scene c a) clip one.is)) two.is)
 pasted-once prefix bytes (Ok a) (Err g) one (inl bad) =
-    absurd (second-none IsClip IsNoClip no-clip-once clip-none bytes g one.scene one.holds.0 bad one.holds.1 (one.clip, one.holds.2))
+    absurd (second-none IsClip IsNoClip no-clip-once clip-none bytes g one.scene one.holds.0 bad one.holds.1 (
+      one.clip,
+      one.holds.2,
+    ))
 pasted-once prefix bytes (Ok a) (Err g) one (inr (place, is, two)) =
     let same = front-once bytes one.scene two.scene one.holds.0 two.holds.0 None None one.holds.1 two.holds.1 in
-    let clip = clip-once two.holds.0 one.clip two.clip (subst (λ t. IsClipOf t one.clip) same.texts one.holds.2) two.holds.2 in
-    absurd (existing-none prefix two.scene two.clip place a two.is (subst (λ s. IsPastedAs prefix s two.clip a) same.scenes (subst (λ c. IsPastedAs prefix one.scene c a) clip one.is)))
+    let clip =
+    clip-once two.holds.0 one.clip two.clip (subst (λ t. IsClipOf t one.clip) same.texts one.holds.2) two.holds.2 in
+    absurd (existing-none prefix two.scene two.clip place a two.is
+    (subst (λ s. IsPastedAs prefix s two.clip a) same.scenes
+    (subst (λ c. IsPastedAs prefix one.scene c a) clip one.is)))
 pasted-once prefix bytes (Err f) (Ok b) (inl bad) two =
-    absurd (second-none IsClip IsNoClip no-clip-once clip-none bytes f two.scene two.holds.0 bad two.holds.1 (two.clip, two.holds.2))
+    absurd (second-none IsClip IsNoClip no-clip-once clip-none bytes f two.scene two.holds.0 bad two.holds.1 (
+      two.clip,
+      two.holds.2,
+    ))
 pasted-once prefix bytes (Err f) (Ok b) (inr (place, is, one)) two =
     let same = front-once bytes one.scene two.scene one.holds.0 two.holds.0 None None one.holds.1 two.holds.1 in
-    let clip = clip-once two.holds.0 one.clip two.clip (subst (λ t. IsClipOf t one.clip) same.texts one.holds.2) two.holds.2 in
-    absurd (existing-none prefix two.scene two.clip place b (subst (λ s. IsExisting prefix s two.clip place) same.scenes (subst (λ c. IsExisting prefix one.scene c place) clip one.is)) two.is)
-pasted-once prefix bytes (Err f) (Err g) (inl bad) (inl also) = ap Err (second-once IsClip IsNoClip no-clip-once clip-none bytes f g bad also)
+    let clip =
+    clip-once two.holds.0 one.clip two.clip (subst (λ t. IsClipOf t one.clip) same.texts one.holds.2) two.holds.2 in
+    absurd (existing-none prefix two.scene two.clip place b
+    (subst (λ s. IsExisting prefix s two.clip place) same.scenes
+    (subst (λ c. IsExisting prefix one.scene c place) clip one.is)) two.is)
+pasted-once prefix bytes (Err f) (Err g) (inl bad) (inl also) =
+    ap Err (second-once IsClip IsNoClip no-clip-once clip-none bytes f g bad also)
 pasted-once prefix bytes (Err f) (Err g) (inl bad) (inr (place, is, two)) =
-    absurd (second-none IsClip IsNoClip no-clip-once clip-none bytes f two.scene two.holds.0 bad two.holds.1 (two.clip, two.holds.2))
+    absurd (second-none IsClip IsNoClip no-clip-once clip-none bytes f two.scene two.holds.0 bad two.holds.1 (
+      two.clip,
+      two.holds.2,
+    ))
 pasted-once prefix bytes (Err f) (Err g) (inr (place, is, one)) (inl bad) =
-    absurd (second-none IsClip IsNoClip no-clip-once clip-none bytes g one.scene one.holds.0 bad one.holds.1 (one.clip, one.holds.2))
+    absurd (second-none IsClip IsNoClip no-clip-once clip-none bytes g one.scene one.holds.0 bad one.holds.1 (
+      one.clip,
+      one.holds.2,
+    ))
 pasted-once prefix bytes (Err f) (Err g) (inr (place, is, one)) (inr (other, also, two)) =
     let same = front-once bytes one.scene two.scene one.holds.0 two.holds.0 None None one.holds.1 two.holds.1 in
-    let clip = clip-once two.holds.0 one.clip two.clip (subst (λ t. IsClipOf t one.clip) same.texts one.holds.2) two.holds.2 in
-    let places = existing-once prefix two.scene two.clip place other (subst (λ s. IsExisting prefix s two.clip place) same.scenes (subst (λ c. IsExisting prefix one.scene c place) clip one.is)) two.is in
+    let clip =
+    clip-once two.holds.0 one.clip two.clip (subst (λ t. IsClipOf t one.clip) same.texts one.holds.2) two.holds.2 in
+    let places = existing-once prefix two.scene two.clip place other
+    (subst (λ s. IsExisting prefix s two.clip place) same.scenes
+    (subst (λ c. IsExisting prefix one.scene c place) clip one.is)) two.is in
     ap Err (is ∙ (ap refusal.Exists places ∙ sym also))

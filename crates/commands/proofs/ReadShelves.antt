@@ -13,13 +13,21 @@ use Rattle.library.specs.declared.fault.LibFault.{LibFault}
 use Rattle.library.specs.declared.item.Item.{Item}
 use Rattle.commands.specs.Shelves.{HasTexts, IsShelfRefusal, SayShelf, ShelfSoFar, shelf_refusal_of, shelf_seen}
 
-pub have-more : (texts : List (List ℕ)) (items : List Item) (text : List ℕ) (own : List Item) → HaveItems texts items → IsLibraryOf text own → HaveItems (texts ++ text ∷ []) (items ++ own)
+pub have-more : (texts : List (List ℕ)) (items : List Item) (text : List ℕ) (own : List Item) → HaveItems texts items
+    → IsLibraryOf text own → HaveItems (texts ++ text ∷ []) (items ++ own)
 have-more [] items text own none is = (own, [], ap (λ all. all ++ own) none ∙ sym (append-nil own), is, refl)
-have-more (first ∷ texts) items text own (some, others, all, read, have) is =
-    (some, others ++ own, ap (λ xs. xs ++ own) all ∙ append_assoc some others own, read, have-more texts others text own have is)
+have-more (first ∷ texts) items text own (some, others, all, read, have) is = (
+  some,
+  others ++ own,
+  ap (λ xs. xs ++ own) all ∙ append_assoc some others own,
+  read,
+  have-more texts others text own have is,
+)
 
-pub shelf-more : (texts : List (List ℕ)) (text : List ℕ) (own : List Item) (old new : ShelfSoFar) → SayShelf texts old → IsLibraryOf text own
-    → ((others : List Item) → AreBest others old.best → AreBest (others ++ own) new.best) → new.next ≡ old.next + 1 → SayShelf (texts ++ text ∷ []) new
+pub shelf-more : (texts : List (List ℕ)) (text : List ℕ) (own : List Item) (old new : ShelfSoFar) → SayShelf texts old
+    → IsLibraryOf text own
+    → ((others : List Item) → AreBest others old.best → AreBest (others ++ own) new.best) → new.next ≡ old.next + 1
+    → SayShelf (texts ++ text ∷ []) new
 shelf-more texts text own old new read is best counted = record {
   items = read.items ++ own;
   read = have-more texts read.items text own read.read is;
@@ -39,7 +47,8 @@ some-read texts next counted later none =
     false≢true (sym later ∙ ap (λ n. n == 1) (counted ∙ ap (λ (xs : List (List ℕ)). length xs + 1) none))
 
 pub shelf-read : (bytes : List ℕ) (so_far : ShelfSoFar) → AreTexts bytes (shelf_seen so_far)
-    → (texts : List (List ℕ)) × (items : List Item) × HasTexts bytes texts × HaveItems texts items × AreBest items so_far.best
+    → (texts : List (List ℕ)) × (items : List Item) × HasTexts bytes texts × HaveItems texts items
+    × AreBest items so_far.best
 shelf-read bytes so_far h =
     let read = h.behind.read in (
       h.texts,
@@ -54,11 +63,13 @@ shelf-read bytes so_far h =
       read.are_best,
     )
 
-begun-at : (texts : List (List ℕ)) (next : ℕ) (more : List ℕ) → next ≡ length texts + 1 → ((next == 1) ≡ true) ⊎ (is_blank more ≡ false) → (texts ≡ []) ⊎ (is_blank more ≡ false)
+begun-at : (texts : List (List ℕ)) (next : ℕ) (more : List ℕ) → next ≡ length texts + 1 → ((next == 1) ≡ true)
+    ⊎ (is_blank more ≡ false) → (texts ≡ []) ⊎ (is_blank more ≡ false)
 begun-at texts next more counted (inl needs) = inl (none-read texts next counted needs)
 begun-at texts next more counted (inr begun) = inr begun
 
-pub shelf-refused : (bytes : List ℕ) (so_far : ShelfSoFar) (stopped : Stopped LibFault) → IsStopped bytes (shelf_seen so_far) stopped → IsShelfRefusal bytes (shelf_refusal_of so_far.next stopped)
+pub shelf-refused : (bytes : List ℕ) (so_far : ShelfSoFar) (stopped : Stopped LibFault)
+    → IsStopped bytes (shelf_seen so_far) stopped → IsShelfRefusal bytes (shelf_refusal_of so_far.next stopped)
 shelf-refused bytes so_far (Faulty fault) h =
     let read = h.behind.read in
     inl (

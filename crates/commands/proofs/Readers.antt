@@ -22,13 +22,15 @@ use Rattle.scene_file.specs.declared.scene.Scene.{Scene}
 use Rattle.scene_file.specs.declared.fault.SceneFault.{SceneFault}
 use Rattle.scene_file.specs.declared.fault.SceneFault.TheVariants.{Json, NotObject, NotScene, Elements, AppState, Files, Element}
 
-pub say-more : (texts : List (List ℕ)) (scenes : List Scene) (text : List ℕ) (scene : Scene) → SayScenes texts scenes → IsSceneOf text scene → SayScenes (texts ++ text ∷ []) (scenes ++ scene ∷ [])
+pub say-more : (texts : List (List ℕ)) (scenes : List Scene) (text : List ℕ) (scene : Scene) → SayScenes texts scenes
+    → IsSceneOf text scene → SayScenes (texts ++ text ∷ []) (scenes ++ scene ∷ [])
 say-more [] [] text scene say is = (is, tt)
 say-more [] (first ∷ scenes) text scene say is = absurd say
 say-more (first ∷ texts) [] text scene say is = absurd say
 say-more (first ∷ texts) (one ∷ scenes) text scene (says, say) is = (says, say-more texts scenes text scene say is)
 
-scenes-lead : (bytes rest : List ℕ) (texts : List (List ℕ)) (scenes : List Scene) → SayScenes texts scenes → TextsLead bytes texts rest → ScenesLead bytes scenes rest
+scenes-lead : (bytes rest : List ℕ) (texts : List (List ℕ)) (scenes : List Scene) → SayScenes texts scenes
+    → TextsLead bytes texts rest → ScenesLead bytes scenes rest
 scenes-lead bytes rest [] [] say lead = lead
 scenes-lead bytes rest [] (scene ∷ scenes) say lead = absurd say
 scenes-lead bytes rest (text ∷ texts) [] say lead = absurd say
@@ -50,22 +52,28 @@ nothing-said heads stored none empty = record {
   counted = refl;
 }
 
-heads-more : (scenes : List Scene) (scene : Scene) → heads_of (scenes ++ scene ∷ []) ≡ heads_of scenes ++ scene.head ∷ []
+heads-more : (scenes : List Scene) (scene : Scene) → heads_of (scenes ++ scene ∷ []) ≡ heads_of scenes ++ scene.head
+    ∷ []
 heads-more scenes scene = map-append (λ (s : Scene). s.head) scenes (scene ∷ [])
 
-updates-more : (scenes : List Scene) (scene : Scene) → updates_of (scenes ++ scene ∷ []) ≡ updates_of scenes ++ scene.elements
+updates-more : (scenes : List Scene) (scene : Scene) → updates_of (scenes ++ scene ∷ []) ≡ updates_of scenes
+    ++ scene.elements
 updates-more scenes scene =
-    flat_map-append (λ (s : Scene). s.elements) scenes (scene ∷ []) ∙ ap (λ es. updates_of scenes ++ es) (append-nil scene.elements)
+    flat_map-append (λ (s : Scene). s.elements) scenes (scene ∷ [])
+    ∙ ap (λ es. updates_of scenes ++ es) (append-nil scene.elements)
 
-pub board-more : (texts : List (List ℕ)) (text : List ℕ) (scene : Scene) (old new : BoardSoFar) → SayBoard texts old → IsSceneOf text scene
+pub board-more : (texts : List (List ℕ)) (text : List ℕ) (scene : Scene) (old new : BoardSoFar) → SayBoard texts old
+    → IsSceneOf text scene
     → ((heads : List Heading) → AreJoined heads old.heads → AreJoined (heads ++ scene.head ∷ []) new.heads)
     → ((updates : List ElementValue) → AreStored updates old.stored → AreStored (updates ++ scene.elements) new.stored)
     → new.next ≡ old.next + 1 → SayBoard (texts ++ text ∷ []) new
 board-more texts text scene old new read is joins stores counted = record {
   scenes = read.scenes ++ scene ∷ [];
   say = say-more texts read.scenes text scene read.say is;
-  joined = subst (λ hs. AreJoined hs new.heads) (sym (heads-more read.scenes scene)) (joins (heads_of read.scenes) read.joined);
-  stores = subst (λ us. AreStored us new.stored) (sym (updates-more read.scenes scene)) (stores (updates_of read.scenes) read.stores);
+  joined = subst (λ hs. AreJoined hs new.heads) (sym (heads-more read.scenes scene))
+      (joins (heads_of read.scenes) read.joined);
+  stores = subst (λ us. AreStored us new.stored) (sym (updates-more read.scenes scene))
+      (stores (updates_of read.scenes) read.stores);
   counted = omega (arith, counted, read.counted, length-append read.scenes (scene ∷ []));
 }
 
@@ -81,7 +89,8 @@ some-listed scenes next counted later none =
     false≢true (sym later ∙ ap (λ n. n == 1) (counted ∙ ap (λ (xs : List Scene). length xs + 1) none))
 
 -- a text that is refused has the fault
-fault-at : (bytes : List ℕ) (at : ℕ) (text rest : List ℕ) (fault : SceneFault) → Stands (drop at bytes) text rest → IsSceneFault text fault → IsSceneFaultAt bytes at fault
+fault-at : (bytes : List ℕ) (at : ℕ) (text rest : List ℕ) (fault : SceneFault) → Stands (drop at bytes) text rest
+    → IsSceneFault text fault → IsSceneFaultAt bytes at fault
 fault-at bytes at text rest (Json fault) stands is = absurd is
 fault-at bytes at text rest NotObject stands is = (text, rest, stands, is)
 fault-at bytes at text rest NotScene stands is = (text, rest, stands, is)
@@ -91,7 +100,8 @@ fault-at bytes at text rest Files stands is = (text, rest, stands, is)
 fault-at bytes at text rest (Element place why) stands is = (text, rest, stands, is)
 
 -- a reader of one scene that is open has read no text
-pub one-open : (scene : Option Scene) (texts : List (List ℕ)) → is_some scene ≡ false → SayScenes texts (listed scene) → texts ≡ []
+pub one-open : (scene : Option Scene) (texts : List (List ℕ)) → is_some scene ≡ false → SayScenes texts (listed scene)
+    → texts ≡ []
 one-open None [] takes say = refl
 one-open None (text ∷ texts) takes say = absurd say
 one-open (Some scene) texts takes say = absurd (false≢true (sym takes))
@@ -112,12 +122,14 @@ board-read bytes so_far head h is =
       record { joined = is (heads_of read.scenes) read.joined; stores = read.stores },
     )
 
-begun-at : (bytes : List ℕ) (scenes : List Scene) (next start : ℕ) → next ≡ length scenes + 1 → ((next == 1) ≡ true) ⊎ (is_blank (drop start bytes) ≡ false)
+begun-at : (bytes : List ℕ) (scenes : List Scene) (next start : ℕ) → next ≡ length scenes + 1 → ((next == 1) ≡ true)
+    ⊎ (is_blank (drop start bytes) ≡ false)
     → (scenes ≡ []) ⊎ (is_blank (drop start bytes) ≡ false)
 begun-at bytes scenes next start counted (inl needs) = inl (none-listed scenes next counted needs)
 begun-at bytes scenes next start counted (inr more) = inr more
 
-pub board-refused : (bytes : List ℕ) (so_far : BoardSoFar) (stopped : Stopped SceneFault) → IsStopped bytes (board_seen so_far) stopped → IsRefusal bytes (refusal_of so_far.next stopped)
+pub board-refused : (bytes : List ℕ) (so_far : BoardSoFar) (stopped : Stopped SceneFault)
+    → IsStopped bytes (board_seen so_far) stopped → IsRefusal bytes (refusal_of so_far.next stopped)
 board-refused bytes so_far (Faulty fault) h =
     let read = h.behind.read in (
       so_far.next,
@@ -160,7 +172,8 @@ one-read bytes scene h = record {
 }
 
 -- the offset behind no text is the first
-at-front : (bytes : List ℕ) (texts : List (List ℕ)) (start : ℕ) → start ≤ length bytes → texts ≡ [] → TextsLead bytes texts (drop start bytes) → start ≡ 0
+at-front : (bytes : List ℕ) (texts : List (List ℕ)) (start : ℕ) → start ≤ length bytes → texts ≡ []
+    → TextsLead bytes texts (drop start bytes) → start ≡ 0
 at-front bytes texts start within none lead =
     let same : bytes ≡ drop start bytes = subst (λ ts. TextsLead bytes ts (drop start bytes)) none lead in
     omega (arith, within, ap length same, length-drop start bytes)
@@ -169,15 +182,31 @@ no-texts : (texts : List (List ℕ)) → SayScenes texts [] → texts ≡ []
 no-texts [] say = refl
 no-texts (text ∷ texts) say = absurd say
 
-pub one-refused : (bytes : List ℕ) (scene : Option Scene) (stopped : Stopped SceneFault) → IsStopped bytes (one_seen scene) stopped → IsOneRefusal bytes (refusal_of 1 stopped)
+pub one-refused : (bytes : List ℕ) (scene : Option Scene) (stopped : Stopped SceneFault)
+    → IsStopped bytes (one_seen scene) stopped → IsOneRefusal bytes (refusal_of 1 stopped)
 one-refused bytes None (Faulty fault) h =
     let front = at-front bytes h.texts h.start h.behind.within (no-texts h.texts h.behind.read) h.behind.lead in
     inl (Json fault, refl, subst (λ at. IsSceneFaultAt bytes at (Json fault)) front h.faulty)
 one-refused bytes (Some scene) (Faulty fault) h = absurd (false≢true (sym h.takes))
 one-refused bytes scene (Refused fault) h =
     let front = at-front bytes h.texts h.start h.within h.refused.0 h.lead in
-    inl (fault, refl, subst (λ at. IsSceneFaultAt bytes at fault) front (fault-at bytes h.start h.text h.rest fault h.stands h.refused.1))
+    inl (
+      fault,
+      refl,
+      subst (λ at. IsSceneFaultAt bytes at fault) front
+          (fault-at bytes h.start h.text h.rest fault h.stands h.refused.1),
+    )
 one-refused bytes None (Extra place) h = absurd (false≢true h.full)
 one-refused bytes (Some scene) (Extra place) h =
     let lead = scenes-lead bytes (drop h.start bytes) h.texts (scene ∷ []) h.behind.read h.behind.lead in
-    inr (place, refl, record { scene = scene; after = h.start; lead = subst (IsSceneAt bytes scene) lead.2 lead.1; behind = h.is_first; more = h.more })
+    inr (
+      place,
+      refl,
+      record {
+        scene = scene;
+        after = h.start;
+        lead = subst (IsSceneAt bytes scene) lead.2 lead.1;
+        behind = h.is_first;
+        more = h.more;
+      },
+    )

@@ -4,7 +4,8 @@ use Rattle.std.specs.List.{list_all, prefix_len}
 
 -- All elements pass, and the run that passes is the whole list; or neither is so.
 abbrev pub Runs : (ℕ → Bool) → List ℕ → Type 0
-Runs p xs = ((list_all p xs ≡ true) × (prefix_len p xs ≡ length xs)) ⊎ ((list_all p xs ≡ false) × (prefix_len p xs < length xs))
+Runs p xs =
+    ((list_all p xs ≡ true) × (prefix_len p xs ≡ length xs)) ⊎ ((list_all p xs ≡ false) × (prefix_len p xs < length xs))
 
 Runs-more : (p : ℕ → Bool) (x : ℕ) (xs : List ℕ) (b : Bool) → p x ≡ b → Runs p xs → Runs p (x ∷ xs)
 Runs-more p x xs false fails rest = inr (rw fails refl, rw fails (omega arith))

@@ -27,12 +27,15 @@ Held bytes =
     ((texts : List (List ℕ)) × (items : List Item) × HasTexts bytes texts × HaveItems texts items)
     ⊎ ((found : Refusal) × IsShelfRefusal bytes found)
 
-leads-more : (bytes rest next text : List ℕ) (texts : List (List ℕ)) → TextsLead bytes texts rest → Stands rest text next → TextsLead bytes (texts ++ text ∷ []) next
+leads-more : (bytes rest next text : List ℕ) (texts : List (List ℕ)) → TextsLead bytes texts rest
+    → Stands rest text next → TextsLead bytes (texts ++ text ∷ []) next
 leads-more bytes rest next text [] lead stands = (next, subst (λ b. Stands b text next) (sym lead) stands, refl)
-leads-more bytes rest next text (first ∷ texts) (middle, here, lead) stands = (middle, here, leads-more middle rest next text texts lead stands)
+leads-more bytes rest next text (first ∷ texts) (middle, here, lead) stands =
+    (middle, here, leads-more middle rest next text texts lead stands)
 
 -- whether no more is to be read: there is a library, and white space alone is left
-ended-or-not : (bytes : List ℕ) (texts : List (List ℕ)) → ((texts ≢ []) × (is_blank bytes ≡ true)) ⊎ ((texts ≡ []) ⊎ (is_blank bytes ≡ false))
+ended-or-not : (bytes : List ℕ) (texts : List (List ℕ)) → ((texts ≢ []) × (is_blank bytes ≡ true))
+    ⊎ ((texts ≡ []) ⊎ (is_blank bytes ≡ false))
 ended-or-not bytes [] = inr (inl refl)
 ended-or-not bytes (text ∷ texts) = elim (Runs-either is_space bytes) [
   | inl all ↦ inl (λ e. cc, all.0)
@@ -40,30 +43,55 @@ ended-or-not bytes (text ∷ texts) = elim (Runs-either is_space bytes) [
 ]
 
 -- one text more, and what comes behind it
-module _ (bytes : List ℕ) (at : ℕ) (texts : List (List ℕ)) (items : List Item) (within : at ≤ length bytes) (lead : TextsLead bytes texts (drop at bytes)) (have : HaveItems texts items)
-    (onward : (text : List ℕ) (own : List Item) (end : ℕ) → at < end → end ≤ length bytes → Stands (drop at bytes) text (drop end bytes) → IsLibraryOf text own → Held bytes) where
+module _ (bytes : List ℕ) (at : ℕ) (texts : List (List ℕ)) (items : List Item) (within : at ≤ length bytes)
+    (lead : TextsLead bytes texts (drop at bytes)) (have : HaveItems texts items)
+    (onward : (text : List ℕ) (own : List Item) (end : ℕ) → at < end → end ≤ length bytes
+    → Stands (drop at bytes) text (drop end bytes) → IsLibraryOf text own → Held bytes) where
   to-here : (texts ≡ []) ⊎ (is_blank (drop at bytes) ≡ false) → HasLibrariesTo bytes at (length texts)
-  to-here begun = record { texts = texts; items = items; read = have; within = within; lead = lead; counted = refl; begun = begun }
+  to-here begun =
+      record { texts = texts; items = items; read = have; within = within; lead = lead; counted = refl; begun = begun }
 
   further-text : (texts ≡ []) ⊎ (is_blank (drop at bytes) ≡ false) → Held bytes
   further-text begun = elim (value-or-fault bytes at within) [
-    | inr (fault, is) ↦ inr (refusal.Text (length texts + 1) (Json fault), inl (length texts + 1, fault, refl, (at, length texts, refl, to-here begun, is)))
+    | inr (fault, is) ↦ inr (
+      refusal.Text (length texts + 1) (Json fault),
+      inl (length texts + 1, fault, refl, (at, length texts, refl, to-here begun, is)),
+    )
     | inl (text, end, small, stands) ↦ elim (library-or-fault text (Value-compact stands.reads)) [
       | inl (own, is) ↦ onward text own end (Stands-behind bytes text at end small stands) small stands is
-      | inr (fault, is) ↦ inr (refusal.Library (length texts + 1) fault, inr (length texts + 1, fault, refl, (at, length texts, refl, to-here begun, (text, drop end bytes, stands, is))))
+      | inr (fault, is) ↦ inr (
+        refusal.Library (length texts + 1) fault,
+        inr (
+          length texts + 1,
+          fault,
+          refl,
+          (at, length texts, refl, to-here begun, (text, drop end bytes, stands, is)),
+        ),
+      )
     ]
   ]
 
   next-text : Held bytes
   next-text = elim (ended-or-not (drop at bytes) texts) [
-    | inl (some, blank) ↦ inl (texts, items, record { some = some; rest = drop at bytes; lead = lead; space = blank }, have)
+    | inl (some, blank) ↦ inl (
+      texts,
+      items,
+      record { some = some; rest = drop at bytes; lead = lead; space = blank },
+      have,
+    )
     | inr begun ↦ further-text begun
   ]
 
-held-from : (bytes : List ℕ) (left at : ℕ) (texts : List (List ℕ)) (items : List Item) → at ≤ length bytes → length bytes ≤ at + left → TextsLead bytes texts (drop at bytes) → HaveItems texts items → Held bytes
-held-from bytes zero at texts items within near lead have = next-text bytes at texts items within lead have (λ text own end behind small stands is. absurd (omega (arith, behind, small)))
-held-from bytes (suc left) at texts items within near lead have = next-text bytes at texts items within lead have (λ text own end behind small stands is.
-    held-from bytes left end (texts ++ text ∷ []) (items ++ own) small (omega (arith, behind)) (leads-more bytes (drop at bytes) (drop end bytes) text texts lead stands) (have-more texts items text own have is))
+held-from : (bytes : List ℕ) (left at : ℕ) (texts : List (List ℕ)) (items : List Item) → at ≤ length bytes
+    → length bytes ≤ at + left → TextsLead bytes texts (drop at bytes) → HaveItems texts items → Held bytes
+held-from bytes zero at texts items within near lead have =
+    next-text bytes at texts items within lead have
+    (λ text own end behind small stands is. absurd (omega (arith, behind, small)))
+held-from bytes (suc left) at texts items within near lead have =
+    next-text bytes at texts items within lead have (λ text own end behind small stands is.
+    held-from bytes left end (texts ++ text ∷ []) (items ++ own) small (omega (arith, behind))
+    (leads-more bytes (drop at bytes) (drop end bytes) text texts lead stands)
+    (have-more texts items text own have is))
 
 held : (bytes : List ℕ) → Held bytes
 held bytes = held-from bytes (length bytes) 0 [] [] (omega arith) (omega arith) refl refl

@@ -28,14 +28,19 @@ use Rattle.scene_file.proofs.CallerLemmas.{AllFit, IsFit, scene-text-compact, te
 use Rattle.commands.specs.Boards.{IsSceneOfStored, shown_of}
 use Rattle.commands.specs.Faults.{newline}
 
-pub scene-once : (layout : Layout) (head other : Heading) (stored news : List ElementValue) (a b : List ℕ) → head ≡ other → stored ≡ news
+pub scene-once : (layout : Layout) (head other : Heading) (stored news : List ElementValue) (a b : List ℕ)
+    → head ≡ other → stored ≡ news
     → IsSceneOfStored layout head stored a → IsSceneOfStored layout other news b → a ≡ b
 scene-once layout head other stored news a b same kept first second =
-    let moved = subst (λ h. IsSceneOfStored layout h news a) same (subst (λ s. IsSceneOfStored layout head s a) kept first) in
-    moved.ended ∙ (ap (λ t. t ++ newline) (text-once layout other (shown_of news) moved.written second.written moved.scene second.scene) ∙ sym second.ended)
+    let moved =
+    subst (λ h. IsSceneOfStored layout h news a) same (subst (λ s. IsSceneOfStored layout head s a) kept first) in
+    moved.ended
+    ∙ (ap (λ t. t ++ newline) (text-once layout other (shown_of news) moved.written second.written moved.scene
+    second.scene) ∙ sym second.ended)
 
 -- What is kept is shown under a head that fits.
-pub scene-exists : (layout : Layout) (head : Heading) (stored : List ElementValue) → IsFit head → HaveRisingNames (pairs head.app_state) → AreKept stored → are_rising (ids_of stored) ≡ true
+pub scene-exists : (layout : Layout) (head : Heading) (stored : List ElementValue) → IsFit head
+    → HaveRisingNames (pairs head.app_state) → AreKept stored → are_rising (ids_of stored) ≡ true
     → (text : List ℕ) × IsSceneOfStored layout head stored text
 scene-exists layout head stored fit rise all ordered =
     let live = live-kept stored all in
@@ -47,12 +52,15 @@ scene-exists layout head stored fit rise all ordered =
         scene = written.1;
         ended = refl;
         rise = shown-keys (live_elements stored) (kept-keys (live_elements stored) live);
-        settled = shown-settled (live_elements stored) (HaveDistinctIds-rising (live_elements stored) (live_elements-rise stored ordered)) (kept-keys (live_elements stored) live);
+        settled = shown-settled (live_elements stored)
+            (HaveDistinctIds-rising (live_elements stored) (live_elements-rise stored ordered))
+            (kept-keys (live_elements stored) live);
       },
     )
 
 -- what is whole fits, and is kept
-fit-members : (ms : List Pair) → AllByRecursion (λ (m : Pair). IsUtf8 m.0) ms → AllByRecursion (λ (m : Pair). IsCompact 126 m.1) ms → AllFit ms
+fit-members : (ms : List Pair) → AllByRecursion (λ (m : Pair). IsUtf8 m.0) ms
+    → AllByRecursion (λ (m : Pair). IsCompact 126 m.1) ms → AllFit ms
 fit-members [] named valued = tt
 fit-members (m ∷ ms) named valued = (record { named = named.0; nests = valued.0 }, fit-members ms named.1 valued.1)
 

@@ -39,21 +39,28 @@ use Rattle.commands.proofs.InsertOnce.{inserted-once}
 use Rattle.commands.proofs.Inputs.{input-once, faulty-once, faulty-scenes, extra-scene, extra-once}
 
 -- ---- the board of scenes
-stored-once : {scenes : List Scene} {head other : Heading} {stored news : List ElementValue} → IsBoardOf scenes head stored → IsBoardOf scenes other news
+stored-once : {scenes : List Scene} {head other : Heading} {stored news : List ElementValue}
+    → IsBoardOf scenes head stored → IsBoardOf scenes other news
     → (head ≡ other) × (stored ≡ news)
 stored-once a b = (head-once a.joined b.joined, store-unique _ _ _ a.stores b.stores)
 
-scene-same : (layout : Layout) (head other : Heading) (stored news : List ElementValue) (a b : List ℕ) → head ≡ other → stored ≡ news
+scene-same : (layout : Layout) (head other : Heading) (stored news : List ElementValue) (a b : List ℕ) → head ≡ other
+    → stored ≡ news
     → IsSceneText layout head (shown_of stored) a → IsSceneText layout other (shown_of news) b → a ≡ b
 scene-same layout head other stored news a b same kept first second =
-    text-once layout other (shown_of news) a b (subst (λ h. IsSceneText layout h (shown_of news) a) same (subst (λ s. IsSceneText layout head (shown_of s) a) kept first)) second
+    text-once layout other (shown_of news) a b (subst (λ h. IsSceneText layout h (shown_of news) a) same
+    (subst (λ s. IsSceneText layout head (shown_of s) a) kept first)) second
 
-shown-once : {scenes : List Scene} {layout : Layout} {text other : List ℕ} → IsShownAs scenes layout text → IsShownAs scenes layout other → text ≡ other
+shown-once : {scenes : List Scene} {layout : Layout} {text other : List ℕ} → IsShownAs scenes layout text
+    → IsShownAs scenes layout other → text ≡ other
 shown-once {layout = layout} a b =
     let same = stored-once a.board b.board in
-    a.ended ∙ (ap (λ t. t ++ newline) (scene-same layout a.head b.head a.stored b.stored a.written b.written same.0 same.1 a.scene b.scene) ∙ sym b.ended)
+    a.ended
+    ∙ (ap (λ t. t ++ newline) (scene-same layout a.head b.head a.stored b.stored a.written b.written same.0 same.1
+    a.scene b.scene) ∙ sym b.ended)
 
-state-once : {scenes : List Scene} {text other : List ℕ} → IsStoredAs scenes text → IsStoredAs scenes other → text ≡ other
+state-once : {scenes : List Scene} {text other : List ℕ} → IsStoredAs scenes text → IsStoredAs scenes other
+    → text ≡ other
 state-once a b =
     let same = stored-once a.board b.board in
     a.is_state ∙ (ap₂ (λ h s. state_text h s ++ newline) same.0 same.1 ∙ sym b.is_state)
@@ -62,12 +69,14 @@ state-once a b =
 url-once : (entry url other : List ℕ) → HasUrl entry url → HasUrl entry other → url ≡ other
 url-once entry url other a b =
     let members = object-once a.members b.members a.are_members b.are_members (sym a.object ∙ b.object) in
-    let both : Some (quote url) ≡ Some (quote other) = sym a.named ∙ (ap (value_at (codes "dataURL")) members ∙ b.named) in
+    let both : Some (quote url) ≡ Some (quote other) =
+    sym a.named ∙ (ap (value_at (codes "dataURL")) members ∙ b.named) in
     quote-once url other a.text b.text (cc)
 
 data-once : (entry content other : List ℕ) → HasData entry content → HasData entry other → content ≡ other
 data-once entry content other a b =
-    content-unique b.url content other (subst (λ u. IsDataUrl u content) (url-once entry a.url b.url a.has_url b.has_url) a.is_data_url) b.is_data_url
+    content-unique b.url content other (subst (λ u. IsDataUrl u content)
+    (url-once entry a.url b.url a.has_url b.has_url) a.is_data_url) b.is_data_url
 
 size-once : (entry : List ℕ) (n m : ℕ) → IsPictureSize entry n → IsPictureSize entry m → n ≡ m
 size-once entry n m p q =
@@ -94,7 +103,8 @@ lines-once (file ∷ files) text other (told, rest, is, more, made) (words, afte
     let rest-same = lines-once files rest after more others in
     made ∙ (ap₂ (λ t r. quote file.0 ++ (codes " " ++ (t ++ (newline ++ r)))) told-same rest-same ∙ sym same)
 
-pictures-once : {scenes : List Scene} {text other : List ℕ} → HasPictures scenes text → HasPictures scenes other → text ≡ other
+pictures-once : {scenes : List Scene} {text other : List ℕ} → HasPictures scenes text → HasPictures scenes other
+    → text ≡ other
 pictures-once {other = other} a b =
     let same = stored-once a.board b.board in
     let files : referred_files a.head.files (shown_of a.stored) ≡ referred_files b.head.files (shown_of b.stored) =
@@ -112,10 +122,12 @@ refusal-none bytes f scenes (number, found, is, faulty) has = faulty-scenes byte
 
 -- a refusal of what is to be one scene: for its text, or for what follows it
 one-once : (bytes : List ℕ) (f g : Refusal) → IsOneRefusal bytes f → IsOneRefusal bytes g → f ≡ g
-one-once bytes f g (inl (found, is, at)) (inl (other, also, too)) = is ∙ (ap (refusal.Text 1) (fault-once bytes 0 found other at too) ∙ sym also)
+one-once bytes f g (inl (found, is, at)) (inl (other, also, too)) =
+    is ∙ (ap (refusal.Text 1) (fault-once bytes 0 found other at too) ∙ sym also)
 one-once bytes f g (inl (found, is, at)) (inr (place, also, e)) = absurd (fault-none bytes 0 found at e.lead)
 one-once bytes f g (inr (place, is, e)) (inl (found, also, at)) = absurd (fault-none bytes 0 found at e.lead)
-one-once bytes f g (inr (place, is, e)) (inr (other, also, d)) = is ∙ (ap refusal.Extra (extra-once bytes place other e d) ∙ sym also)
+one-once bytes f g (inr (place, is, e)) (inr (other, also, d)) =
+    is ∙ (ap refusal.Extra (extra-once bytes place other e d) ∙ sym also)
 
 one-none : (bytes : List ℕ) (f : Refusal) (scene : Scene) → IsOneRefusal bytes f → HasScenes bytes (scene ∷ []) → ⊥
 one-none bytes f scene (inl (found, is, at)) has = fault-none bytes 0 found at has.lead.1
@@ -123,7 +135,8 @@ one-none bytes f scene (inr (place, is, e)) has = extra-scene bytes place scene 
 
 -- ---- sessions
 replay-refusal-once : (bytes : List ℕ) (f g : Refusal) → IsSessionRefusal bytes f → IsSessionRefusal bytes g → f ≡ g
-replay-refusal-once bytes f g (fault, is, at) (other, also, too) = is ∙ (ap session_refusal (session-fault-once bytes fault other at too) ∙ sym also)
+replay-refusal-once bytes f g (fault, is, at) (other, also, too) =
+    is ∙ (ap session_refusal (session-fault-once bytes fault other at too) ∙ sym also)
 
 replayed-none : (bytes text : List ℕ) (f : Refusal) → IsReplayed bytes text → IsSessionRefusal bytes f → ⊥
 replayed-none bytes text f replayed (fault, is, at) = session-none bytes replayed.session fault replayed.read at
@@ -131,24 +144,30 @@ replayed-none bytes text f replayed (fault, is, at) = session-none bytes replaye
 replayed-once : (bytes text other : List ℕ) → IsReplayed bytes text → IsReplayed bytes other → text ≡ other
 replayed-once bytes text other a b =
     let same = session-once bytes a.session b.session a.read b.read in
-    a.ended ∙ (ap (λ t. t ++ newline) (report-once b.session a.written b.written (subst (λ s. IsReportText s a.written) same a.report) b.report) ∙ sym b.ended)
+    a.ended
+    ∙ (ap (λ t. t ++ newline) (report-once b.session a.written b.written
+    (subst (λ s. IsReportText s a.written) same a.report) b.report) ∙ sym b.ended)
 
 -- ---- answers
 made-once : (IsOf : List Scene → List ℕ → Type 0) (bytes text other : List ℕ)
-    → ((scenes : List Scene) → IsOf scenes text → IsOf scenes other → text ≡ other) → IsMadeOf IsOf bytes text → IsMadeOf IsOf bytes other → text ≡ other
+    → ((scenes : List Scene) → IsOf scenes text → IsOf scenes other → text ≡ other) → IsMadeOf IsOf bytes text
+    → IsMadeOf IsOf bytes other → text ≡ other
 made-once IsOf bytes text other once (scenes, has, is) (others, also, too) =
     once scenes is (subst (λ s. IsOf s other) (input-once bytes others scenes also has) too)
 
-made-none : (IsOf : List Scene → List ℕ → Type 0) (bytes text : List ℕ) (f : Refusal) → IsMadeOf IsOf bytes text → IsRefusal bytes f → ⊥
+made-none : (IsOf : List Scene → List ℕ → Type 0) (bytes text : List ℕ) (f : Refusal) → IsMadeOf IsOf bytes text
+    → IsRefusal bytes f → ⊥
 made-none IsOf bytes text f (scenes, has, is) refused = refusal-none bytes f scenes refused has
 
-pub answer-once : (command : Command) (bytes : List ℕ) (answer other : Result (List ℕ) Refusal) → IsAnswer command bytes answer → IsAnswer command bytes other → answer ≡ other
+pub answer-once : (command : Command) (bytes : List ℕ) (answer other : Result (List ℕ) Refusal)
+    → IsAnswer command bytes answer → IsAnswer command bytes other → answer ≡ other
 answer-once (Restore layout) bytes (Ok a) (Ok b) (scene, has, is) (next, also, too) =
     ap Ok (shown-once is (subst (λ s. IsShownAs s layout b) (input-once bytes (next ∷ []) (scene ∷ []) also has) too))
 answer-once (Restore layout) bytes (Ok a) (Err g) (scene, has, is) also = absurd (one-none bytes g scene also has)
 answer-once (Restore layout) bytes (Err f) (Ok b) is (scene, has, too) = absurd (one-none bytes f scene is has)
 answer-once (Restore layout) bytes (Err f) (Err g) is also = ap Err (one-once bytes f g is also)
-answer-once (Merge layout) bytes (Ok a) (Ok b) is also = ap Ok (made-once (λ s. IsShownAs s layout) bytes a b (λ s. shown-once) is also)
+answer-once (Merge layout) bytes (Ok a) (Ok b) is also =
+    ap Ok (made-once (λ s. IsShownAs s layout) bytes a b (λ s. shown-once) is also)
 answer-once (Merge layout) bytes (Ok a) (Err g) is also = absurd (made-none (λ s. IsShownAs s layout) bytes a g is also)
 answer-once (Merge layout) bytes (Err f) (Ok b) is also = absurd (made-none (λ s. IsShownAs s layout) bytes b f also is)
 answer-once (Merge layout) bytes (Err f) (Err g) is also = ap Err (refusal-once bytes f g is also)
@@ -174,17 +193,29 @@ pub merges-converge : (layout : Layout) (bytes others text other_text : List ℕ
     → IsAnswer (Merge layout) bytes (Ok text) → IsAnswer (Merge layout) others (Ok other_text) → other_text ≡ text
 merges-converge layout bytes others text other_text h (scenes, has, a) (news, also, b) =
     let mine = subst (λ s. IsShownAs s layout text) (input-once bytes scenes h.scenes has h.bytes_hold) a in
-    let theirs = subst (λ s. IsShownAs s layout other_text) (input-once others news h.other_scenes also h.others_hold) b in
+    let theirs =
+    subst (λ s. IsShownAs s layout other_text) (input-once others news h.other_scenes also h.others_hold) b in
     let heads = heads-whole h.scenes (scenes-whole bytes h.scenes h.bytes_hold) in
-    let head = head-once theirs.board.joined (joined-moved (heads_of h.scenes) (heads_of h.other_scenes) mine.head heads h.same_heads mine.board.joined) in
-    let kept = sym (stores-converge (updates_of h.scenes) (updates_of h.other_scenes) mine.stored theirs.stored h.same (updates-elements bytes h.scenes h.bytes_hold) mine.board.stores theirs.board.stores) in
-    theirs.ended ∙ (ap (λ t. t ++ newline) (scene-same layout theirs.head mine.head theirs.stored mine.stored theirs.written mine.written head kept theirs.scene mine.scene) ∙ sym mine.ended)
+    let head = head-once theirs.board.joined (joined-moved (heads_of h.scenes) (heads_of h.other_scenes) mine.head heads
+    h.same_heads mine.board.joined) in
+    let kept = sym (stores-converge (updates_of h.scenes) (updates_of h.other_scenes) mine.stored theirs.stored h.same
+    (updates-elements bytes h.scenes h.bytes_hold) mine.board.stores theirs.board.stores) in
+    theirs.ended
+    ∙ (ap (λ t. t ++ newline) (scene-same layout theirs.head mine.head theirs.stored mine.stored theirs.written
+    mine.written head kept theirs.scene mine.scene) ∙ sym mine.ended)
 
-pub merge-of-best : (layout : Layout) (bytes text : List ℕ) (scenes : List Scene) (head : Heading) (chosen : List ElementValue)
+pub merge-of-best : (layout : Layout) (bytes text : List ℕ) (scenes : List Scene) (head : Heading)
+    (chosen : List ElementValue)
     → HasScenes bytes scenes → IsJoinedHead (heads_of scenes) head → AreBest (updates_of scenes) chosen
-    → IsAnswer (Merge layout) bytes (Ok text) → (written : List ℕ) × IsSceneText layout head (shown_of chosen) written × (text ≡ written ++ newline)
+    → IsAnswer (Merge layout) bytes (Ok text) → (written : List ℕ) × IsSceneText layout head (shown_of chosen) written
+    × (text ≡ written ++ newline)
 merge-of-best layout bytes text scenes head chosen has joined best (others, also, a) =
     let mine = subst (λ s. IsShownAs s layout text) (input-once bytes others scenes also has) a in
-    let kept = store-unique _ mine.stored chosen mine.board.stores (AreStored-from_best (updates_of scenes) chosen (updates-elements bytes scenes has) best) in
-    let same = head-once mine.board.joined joined in
-    (mine.written, subst (λ h. IsSceneText layout h (shown_of chosen) mine.written) same (subst (λ s. IsSceneText layout mine.head (shown_of s) mine.written) kept mine.scene), mine.ended)
+    let kept = store-unique _ mine.stored chosen mine.board.stores
+    (AreStored-from_best (updates_of scenes) chosen (updates-elements bytes scenes has) best) in
+    let same = head-once mine.board.joined joined in (
+      mine.written,
+      subst (λ h. IsSceneText layout h (shown_of chosen) mine.written) same
+          (subst (λ s. IsSceneText layout mine.head (shown_of s) mine.written) kept mine.scene),
+      mine.ended,
+    )

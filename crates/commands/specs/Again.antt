@@ -6,8 +6,8 @@ use Rattle.commands.specs.Answers.{IsAnswer}
 use Rattle.commands.specs.declared.words.Command.{Command}
 use Rattle.commands.specs.declared.words.Command.TheVariants.{Restore, Merge, State, Pictures, Replay, Recover, Paste, Library, Insert}
 
--- What was restored, in whatever layout, is restored to the texts that the input is restored to: nothing is restored
--- twice.
+-- What was restored, in whatever layout, is restored to the texts that the input is restored to:
+-- nothing is restored twice.
 abbrev pub RestoresOnce : Type 0
 RestoresOnce =
     (first layout : Layout) (bytes text other : List ℕ) → IsAnswer (Restore first) bytes (Ok text)
@@ -39,7 +39,8 @@ AreStates (input ∷ inputs) [] = ⊥
 AreStates (input ∷ inputs) (state ∷ states) =
     IsAnswer State input (Ok state) × AreStates inputs states
 
--- The states of inputs stand for these: a merge, and each other command over scenes, is resumed from them.
+-- The states of inputs stand for these: a merge, and each other command over scenes, is resumed
+-- from them.
 abbrev pub StatesStandFor : Type 0
 StatesStandFor =
     (command : Command) (inputs states : List (List ℕ)) (text : List ℕ) → TakesScenes command

@@ -1,5 +1,5 @@
--- What an input is answered with, command by command. This project's own; what is stored is Excalidraw's reconcile, and
--- the texts are after its JSON schema.
+-- What an input is answered with, command by command. This project's own; what is stored is
+-- Excalidraw's reconcile, and the texts are after its JSON schema.
 use Rattle.std.specs.Prelude.{◌≡◌, ◌⊎◌, ℕ, List, [], ◌∷◌, ◌++◌, Result, Ok, Err}
 use Rattle.elem.specs.ElementValue.{ElementValue}
 use Rattle.elem_store.specs.Updates.{HaveSameUpdates}
@@ -30,8 +30,8 @@ use Rattle.commands.specs.declared.status.Refusal.TheVariants as refusal
 use Rattle.commands.specs.declared.words.Command.{Command}
 use Rattle.commands.specs.declared.words.Command.TheVariants.{Restore, Merge, State, Pictures, Replay, Recover, Paste, Library, Insert}
 
--- The text of the scene that the board of these scenes shows, and a newline. Its keys rise strictly, and its elements
--- agree on their links, frames and groups.
+-- The text of the scene that the board of these scenes shows, and a newline. Its keys rise
+-- strictly, and its elements agree on their links, frames and groups.
 pub record IsShownAs (scenes : List Scene) (layout : Layout) (text : List ℕ) : Type 0 where
   pub head : Heading
   pub stored : List ElementValue
@@ -56,7 +56,8 @@ pub record HasPictures (scenes : List Scene) (text : List ℕ) : Type 0 where
   pub board : IsBoardOf scenes head stored
   pub lines : AreLines (referred_files head.files (shown_of stored)) text
 
--- The first fault of an input that is to be one scene: its first text has it, or a further byte follows the scene.
+-- The first fault of an input that is to be one scene: its first text has it, or a further byte
+-- follows the scene.
 abbrev pub IsOneRefusal : List ℕ → Refusal → Type 0
 IsOneRefusal bytes found =
     ((fault : SceneFault) × (found ≡ refusal.Text 1 fault) × IsSceneFaultAt bytes 0 fault)
@@ -112,7 +113,8 @@ IsAnswer Library bytes (Err found) = IsShelfRefusal bytes found
 IsAnswer (Insert insertion) bytes (Ok text) = IsInserted insertion bytes text
 IsAnswer (Insert insertion) bytes (Err found) = IsInsertRefusal insertion bytes found
 
--- Two inputs are scenes with the same updates and the same heads, in whatever order, grouping and repetition.
+-- Two inputs are scenes with the same updates and the same heads, in whatever order, grouping and
+-- repetition.
 pub record HaveSameUpdatesAndHeads (bytes others : List ℕ) : Type 0 where
   pub scenes : List Scene
   pub other_scenes : List Scene

@@ -1,4 +1,5 @@
--- The boards of scenes, and what is shown of them. This project's own; what is stored is Excalidraw's reconcile.
+-- The boards of scenes, and what is shown of them. This project's own; what is stored is
+-- Excalidraw's reconcile.
 use Rattle.std.specs.Prelude.{◌≡◌, ℕ, List, ◌++◌, flat_map, map}
 use Rattle.elem.specs.ElementValue.{ElementValue}
 use Rattle.elem_store.specs.Updates.{AreStored}
@@ -28,8 +29,8 @@ pub record IsBoardOf (scenes : List Scene) (head : Heading)
 abbrev pub shown_of : List ElementValue → List ElementValue
 shown_of stored = shown (live_elements stored)
 
--- The text is that of the scene that is shown of these stored elements, and a newline. Its keys rise strictly, and its
--- elements agree on their links, frames and groups.
+-- The text is that of the scene that is shown of these stored elements, and a newline. Its keys
+-- rise strictly, and its elements agree on their links, frames and groups.
 pub record IsSceneOfStored (layout : Layout) (head : Heading) (stored : List ElementValue)
     (text : List ℕ) : Type 0 where
   pub written : List ℕ

@@ -5,7 +5,8 @@ use Rattle.commands.specs.declared.status.Fault.{Fault}
 use Rattle.commands.specs.declared.status.Fault.TheVariants as fault
 use Rattle.commands.specs.declared.words.Command.{Command}
 
--- A failure to write comes where the output's count of faults rose; every other fault is one of reading the input.
+-- A failure to write comes where the output's count of faults rose; every other fault is one of
+-- reading the input.
 abbrev pub HasCause : Fault → Command → Span SourceEnd → Span SinkEnd → Type 0
 HasCause fault.Write command input output = WasDoneInPart command input output
 HasCause found command input output =

@@ -19,16 +19,16 @@ pub record NoneRose (ends : Ends) : Type 0 where
   pub output : Rose ends.output.before.faults ends.output.after.faults → ⊥
   pub links : Rose ends.links.before.faults ends.links.after.faults → ⊥
 
--- The links lead a room of these scenes, which begins with what their board stores, to a close within
--- the service's limits.
+-- The links lead a room of these scenes, which begins with what their board stores, to a close
+-- within the service's limits.
 pub record LeadsToClose (service : Service) (scenes : List Scene)
     (links : Span LinksEnd) : Type 0 where
   pub begun : Begun
   pub board : IsBoardOf scenes begun.head begun.stored
   pub leads : LeadToClose service.limits (at_start (room_of begun.stored)) links.before links.after
 
--- A room that is served over an input that has scenes, where no end fails and the links lead it to a close, ends with
--- all done, or memory is wanted.
+-- A room that is served over an input that has scenes, where no end fails and the links lead it to
+-- a close, ends with all done, or memory is wanted.
 abbrev pub IsServedToClose : Service → Ends → Status → Type 0
 IsServedToClose service ends result =
     (bytes : List ℕ) (scenes : List Scene) → HasLeft limit ends.input.before bytes

@@ -58,7 +58,8 @@ summary_text drill told =
     ++ (codes "refused " ++ (decimal told.refused ++ (newline
     ++ (codes "stored " ++ (decimal told.stored ++ (newline
     ++ (codes "live " ++ (decimal told.live ++ (newline
-    ++ (codes "clashes " ++ (decimal told.clashes ++ (newline ++ equal_line told.same))))))))))))))))))))))
+    ++ (codes "clashes " ++ (decimal told.clashes
+    ++ (newline ++ equal_line told.same))))))))))))))))))))))
 
 -- what is told of a report
 abbrev pub of_report : Report → Summary
@@ -92,8 +93,8 @@ pub record IsDrilled (drill : Drill) (text : List ℕ) : Type 0 where
   pub counted : HaveClashes [] (all_elements session (last_world session)) clashes
   pub told : text ≡ summary_text drill (of_world session (last_world session) clashes)
 
--- How a run of a drill ends, by its status: its text was written; or a first part of it, where the output's count of
--- faults rose; or memory was wanted.
+-- How a run of a drill ends, by its status: its text was written; or a first part of it, where the
+-- output's count of faults rose; or memory was wanted.
 abbrev pub EndsDrilling : Drill → Span SinkEnd → Span SinkEnd → Status → Type 0
 EndsDrilling drill output notes status.Done =
     (text : List ℕ) × IsDrilled drill text × Took output.before output.after text

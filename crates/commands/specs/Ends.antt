@@ -61,8 +61,9 @@ pub record HasLeft (most : Option ℕ) (before : SourceEnd) (bytes : List ℕ) :
 abbrev pub IsNeverRefused : List ℕ → Refusal → Type 0
 IsNeverRefused bytes found = ⊥
 
--- What a fault of reading an input comes from, which is refused so: a failure to read where the input's count of faults
--- rose; more bytes than the limit; or bytes that were read to their end and are to be refused.
+-- What a fault of reading an input comes from, which is refused so: a failure to read where the
+-- input's count of faults rose; more bytes than the limit; or bytes that were read to their end and
+-- are to be refused.
 abbrev pub IsInputFault : Option ℕ → (List ℕ → Refusal → Type 0) → Span SourceEnd → Fault → Type 0
 IsInputFault most IsRefused input fault.Memory = Unit {0}
 IsInputFault most IsRefused input fault.Usage = ⊥
@@ -73,7 +74,8 @@ IsInputFault most IsRefused input (fault.Refused found) =
     (bytes : List ℕ) × WasRead most input bytes × IsRefused bytes found
 IsInputFault most IsRefused input fault.Write = ⊥
 
--- The command answers the input, which was read to its end, with a text, of which so much was written.
+-- The command answers the input, which was read to its end, with a text, of which so much was
+-- written.
 pub record WasAnswered (command : Command) (input : Span SourceEnd) (output : Span SinkEnd)
     (part : List ℕ → List ℕ) : Type 0 where
   pub bytes : List ℕ
@@ -96,15 +98,16 @@ WasDoneInPart command input output =
 abbrev pub IsRefusalOf : Command → List ℕ → Refusal → Type 0
 IsRefusalOf command bytes found = IsAnswer command bytes (Err found)
 
--- The input gave one byte more than the limit; or it was read to its end, and the command answers it with this refusal.
+-- The input gave one byte more than the limit; or it was read to its end, and the command answers
+-- it with this refusal.
 abbrev pub WasRefused : Command → Fault → Span SourceEnd → Type 0
 WasRefused command fault.TooLong input = GaveTooMuch (limit_of command) input
 WasRefused command (fault.Refused found) input =
     (bytes : List ℕ) × WasRead (limit_of command) input bytes × IsRefusalOf command bytes found
 WasRefused command other input = ⊥
 
--- How a run ends whose input has this answer: Done, and the text was written, or WriteFault, where the output's count
--- of faults rose; or Refused, and the notes tell the fault.
+-- How a run ends whose input has this answer: Done, and the text was written, or WriteFault, where
+-- the output's count of faults rose; or Refused, and the notes tell the fault.
 abbrev pub EndsWith : Result (List ℕ) Refusal → Status → Span SinkEnd → Span SinkEnd → Type 0
 EndsWith (Ok text) status output notes =
     ((status ≡ Done) × Took output.before output.after text)

@@ -54,19 +54,23 @@ text_line number words =
 abbrev pub line_of : Fault → List ℕ
 line_of fault.Memory = codes "board: out of memory" ++ newline
 line_of fault.Usage =
-    codes "board: usage: restore, merge, state, replay, pictures, drill SEED EVENTS, serve PORT LINKS IDLE, recover, paste PREFIX, library, insert ITEM PREFIX"
+    codes
+    "board: usage: restore, merge, state, replay, pictures, drill SEED EVENTS, serve PORT LINKS IDLE, recover, paste PREFIX, library, insert ITEM PREFIX"
     ++ newline
 line_of fault.Read = codes "board: read fault" ++ newline
 line_of fault.TooLong = codes "board: input is longer than 67108864 bytes" ++ newline
 line_of (fault.Refused (refusal.Text number found)) = text_line number (scene_fault_words found)
-line_of (fault.Refused (refusal.Extra at)) = codes "board: extra text at byte " ++ (decimal at ++ newline)
-line_of (fault.Refused (refusal.Event number found)) = text_line number (sessions.session_fault_words found)
+line_of (fault.Refused (refusal.Extra at)) =
+    codes "board: extra text at byte " ++ (decimal at ++ newline)
+line_of (fault.Refused (refusal.Event number found)) =
+    text_line number (sessions.session_fault_words found)
 line_of (fault.Refused refusal.TooMany) = codes "board: more than 250000 events" ++ newline
 line_of (fault.Refused (refusal.Line number found)) = text_line number (line_fault_words found)
 line_of (fault.Refused (refusal.Clip found)) = text_line 2 (clip_fault_words found)
 line_of (fault.Refused (refusal.Library number found)) = text_line number (lib_fault_words found)
 line_of (fault.Refused refusal.NoItem) = text_line 2 (codes "no item")
-line_of (fault.Refused (refusal.Exists place)) = text_line 2 (words_of_element place (codes "exists"))
+line_of (fault.Refused (refusal.Exists place)) =
+    text_line 2 (words_of_element place (codes "exists"))
 line_of fault.Write = codes "board: write fault" ++ newline
 
 -- The notes gained the line, or a first part of it where their count of faults rose.

@@ -12,13 +12,15 @@ use Rattle.scene_file.specs.declared.fault.SceneFault.TheVariants.{Json}
 use Rattle.commands.specs.declared.status.Refusal.{Refusal}
 use Rattle.commands.specs.declared.status.Refusal.TheVariants as refusal
 
--- What stands behind an offset: white space alone, or behind white space a further byte, at this place.
+-- What stands behind an offset: white space alone, or behind white space a further byte, at this
+-- place.
 abbrev pub IsBehind : List ℕ → ℕ → Option ℕ → Type 0
 IsBehind bytes after None = is_blank (drop after bytes) ≡ true
 IsBehind bytes after (Some at) =
     (at ≡ after + prefix_len is_space (drop after bytes)) × (at < length bytes)
 
--- The bytes begin with a scene, and behind it a value with this compact text; and what stands behind that.
+-- The bytes begin with a scene, and behind it a value with this compact text; and what stands
+-- behind that.
 pub record HasFront (bytes : List ℕ) (scene : Scene) (text : List ℕ)
     (more : Option ℕ) : Type 0 where
   pub next : List ℕ
@@ -42,9 +44,11 @@ IsFrontRefusal bytes found =
     ((fault : SceneFault) × (found ≡ refusal.Text 1 fault) × IsSceneFaultAt bytes 0 fault)
     ⊎ ((fault : JsonFault) × (found ≡ refusal.Text 2 (Json fault)) × HasNoTextBehind bytes fault)
 
--- The first fault of an input that is to be a scene and a text that is read so, which else has a fault: the input
--- doesn't begin with a scene and a value; or the value has a fault; or behind it and white space a further byte stands.
-abbrev pub IsSecondRefusal : (List ℕ → Type 0) → (List ℕ → Refusal → Type 0) → List ℕ → Refusal → Type 0
+-- The first fault of an input that is to be a scene and a text that is read so, which else has a
+-- fault: the input doesn't begin with a scene and a value; or the value has a fault; or behind it
+-- and white space a further byte stands.
+abbrev pub IsSecondRefusal : (List ℕ → Type 0) → (List ℕ → Refusal → Type 0) → List ℕ → Refusal
+    → Type 0
 IsSecondRefusal IsRead IsFaulty bytes found =
     IsFrontRefusal bytes found
     ⊎ (((scene : Scene) × (text : List ℕ) × (more : Option ℕ) × HasFront bytes scene text more

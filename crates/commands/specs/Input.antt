@@ -6,7 +6,8 @@ use Rattle.scene_file.specs.Reading.{IsSceneAt, IsSceneFaultAt}
 use Rattle.scene_file.specs.declared.scene.Scene.{Scene}
 use Rattle.scene_file.specs.declared.fault.SceneFault.{SceneFault}
 
--- These scenes stand at the front, one after the other, each behind white space; the rest follows them.
+-- These scenes stand at the front, one after the other, each behind white space; the rest follows
+-- them.
 abbrev pub ScenesLead : List ℕ → List Scene → List ℕ → Type 0
 ScenesLead bytes [] rest = bytes ≡ rest
 ScenesLead bytes (scene ∷ scenes) rest =
@@ -19,8 +20,8 @@ pub record HasScenes (bytes : List ℕ) (scenes : List Scene) : Type 0 where
   pub lead : ScenesLead bytes scenes rest
   pub space : is_blank rest ≡ true
 
--- The text with this number is the first with a fault: scenes lead up to it. Texts are counted from 1; behind the last
--- scene white space alone is no text, and at least one text is needed.
+-- The text with this number is the first with a fault: scenes lead up to it. Texts are counted from
+-- 1; behind the last scene white space alone is no text, and at least one text is needed.
 pub record HasFaultyText (bytes : List ℕ) (number : ℕ) (fault : SceneFault) : Type 0 where
   pub scenes : List Scene
   pub start : ℕ

@@ -14,8 +14,8 @@ use Rattle.commands.specs.declared.status.Refusal.TheVariants as refusal
 use Rattle.commands.specs.declared.words.Form.{Form}
 use Rattle.commands.specs.declared.words.Form.TheVariants as form
 
--- The text of what is stored under this head, in this form, and a newline: all of it; or the scene that is shown, whose
--- layers are those of the stored elements.
+-- The text of what is stored under this head, in this form, and a newline: all of it; or the scene
+-- that is shown, whose layers are those of the stored elements.
 abbrev pub IsToldAs : Form → Heading → List ElementValue → List ℕ → Type 0
 IsToldAs form.State head stored text = text ≡ state_text head stored ++ newline
 IsToldAs form.Scene head stored text = IsSceneOfStored Compact head stored text

@@ -1,4 +1,5 @@
--- What serving a durable room does, from what it begins with to what its journal has at its end. This project's own.
+-- What serving a durable room does, from what it begins with to what its journal has at its end.
+-- This project's own.
 use Rattle.std.specs.Prelude.{◌≡◌, ◌⊎◌, ℕ, List, [], ◌++◌, Option, None, Ok, codes}
 use Rattle.board_ends.specs.Counts.{Rose}
 use Rattle.board_ends.specs.Ends.{SourceEnd, SinkEnd}
@@ -30,8 +31,9 @@ abbrev pub limit_from : Begins → Option ℕ
 limit_from Scenes = limit
 limit_from Journal = None
 
--- What a durable room begins with over these bytes: the board of the scenes that they hold; or what is recovered of the
--- journal that they are, where each stored element without a key gets one above the greatest of all.
+-- What a durable room begins with over these bytes: the board of the scenes that they hold; or what
+-- is recovered of the journal that they are, where each stored element without a key gets one above
+-- the greatest of all.
 abbrev pub BeginsWith : Begins → List ℕ → Begun → Type 0
 BeginsWith Scenes bytes begun =
     (scenes : List Scene) × HasScenes bytes scenes × IsBoardOf scenes begun.head begun.stored
@@ -44,10 +46,10 @@ abbrev pub IsBeginsRefusal : Begins → List ℕ → Refusal → Type 0
 IsBeginsRefusal Scenes bytes found = IsRefusal bytes found
 IsBeginsRefusal Journal bytes found = IsJournalRefusal bytes found
 
--- The input, read to its end, says what a durable room begins with; the room was served to this end. Either its first
--- record wasn't made safe, and nobody listened; or the links listened, and the room was kept: its journal is the
--- output, which took the records of the run, all of them unless it failed, and whatever a stop leaves of them, all that
--- was told is recovered.
+-- The input, read to its end, says what a durable room begins with; the room was served to this
+-- end. Either its first record wasn't made safe, and nobody listened; or the links listened, and
+-- the room was kept: its journal is the output, which took the records of the run, all of them
+-- unless it failed, and whatever a stop leaves of them, all that was told is recovered.
 pub record WasKeptTo (keeping : Keeping) (end : KeepEnd) (ends : Ends) : Type 0 where
   pub bytes : List ℕ
   pub read : WasRead (limit_from keeping.begins) ends.input bytes
@@ -93,9 +95,10 @@ kept_line EventsFull = codes "board: room: events full" ++ newline
 kept_line JournalFault = codes "board: write fault" ++ newline
 kept_line MemoryEnd = codes "board: out of memory" ++ newline
 
--- How a run that serves a durable room ends, by its status. Each end of the room is told by its line; of an input that
--- is refused, and of one that can't be read, nothing is served and nothing written. At want of memory either nothing
--- was served and nothing written, or the room was kept until then.
+-- How a run that serves a durable room ends, by its status. Each end of the room is told by its
+-- line; of an input that is refused, and of one that can't be read, nothing is served and nothing
+-- written. At want of memory either nothing was served and nothing written, or the room was kept
+-- until then.
 abbrev pub EndsKeeping : Keeping → Ends → Span SinkEnd → Status → Type 0
 EndsKeeping keeping ends notes status.Done = WasKeptTo keeping AllClosed ends
 EndsKeeping keeping ends notes status.Idle = WasKeptTo keeping IdleEnd ends
@@ -114,11 +117,12 @@ EndsKeeping keeping ends notes status.ReadFault =
 EndsKeeping keeping ends notes status.WriteFault =
     WasKeptTo keeping JournalFault ends × Noted fault.Write notes.before notes.after
 EndsKeeping keeping ends notes status.Memory =
-    (IsUntouched ends ⊎ WasKeptTo keeping MemoryEnd ends) × Noted fault.Memory notes.before notes.after
+    (IsUntouched ends ⊎ WasKeptTo keeping MemoryEnd ends)
+    × Noted fault.Memory notes.before notes.after
 EndsKeeping keeping ends notes status.Usage = ⊥
 
--- What serving a durable room over an input with these bytes comes to: it begins with what they hold, and was served to
--- an end that has this status; or they are refused for their first fault.
+-- What serving a durable room over an input with these bytes comes to: it begins with what they
+-- hold, and was served to an end that has this status; or they are refused for their first fault.
 abbrev pub KeepsInput : Keeping → List ℕ → Ends → Span SinkEnd → Status → Type 0
 KeepsInput keeping bytes ends notes result =
     ((begun : Begun) × BeginsWith keeping.begins bytes begun

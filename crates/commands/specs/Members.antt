@@ -12,8 +12,8 @@ use Rattle.scene_file.specs.declared.scene.Scene.{Scene}
 use Rattle.commands.specs.Boards.{IsBoardOf}
 use Rattle.commands.specs.Input.{HasScenes}
 
--- The room begins with what the board of an input's scenes stores; after these rounds it is the last
--- one, and the link is joined.
+-- The room begins with what the board of an input's scenes stores; after these rounds it is the
+-- last one, and the link is joined.
 pub record IsMember (link : ℕ) (room last : RoomState) (rounds : List Round) : Type 0 where
   pub bytes : List ℕ
   pub scenes : List Scene

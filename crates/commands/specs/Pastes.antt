@@ -28,9 +28,10 @@ abbrev pub HasSceneAndClip : List ℕ → Scene → Clip → Type 0
 HasSceneAndClip bytes scene clip =
     (text : List ℕ) × HasFront bytes scene text None × IsClipOf text clip
 
--- The text of the scene that is shown of the scene's board and the copies of a clip's elements, and a newline. No
--- copy's id is stored by the board. The copies come behind the updates of the scene, with keys above the last one of
--- what is shown of its board; and the clip's files are joined as those of a further head that has nothing else.
+-- The text of the scene that is shown of the scene's board and the copies of a clip's elements, and
+-- a newline. No copy's id is stored by the board. The copies come behind the updates of the scene,
+-- with keys above the last one of what is shown of its board; and the clip's files are joined as
+-- those of a further head that has nothing else.
 pub record IsPastedAs (prefix : List ℕ) (scene : Scene) (clip : Clip)
     (text : List ℕ) : Type 0 where
   pub old : Heading
@@ -45,7 +46,8 @@ pub record IsPastedAs (prefix : List ℕ) (scene : Scene) (clip : Clip)
   pub stores : AreStored (updates_of (scene ∷ []) ++ pasted stored clip.elements prefix) all
   pub shown : IsSceneOfStored Compact head all text
 
--- The board of the scene stores the id that the copy of the element at this place would have; that of none before it.
+-- The board of the scene stores the id that the copy of the element at this place would have; that
+-- of none before it.
 pub record IsExisting (prefix : List ℕ) (scene : Scene) (clip : Clip)
     (place : ℕ) : Type 0 where
   pub head : Heading
@@ -60,14 +62,16 @@ pub record IsPasted (prefix bytes text : List ℕ) : Type 0 where
   pub holds : HasSceneAndClip bytes scene clip
   pub is : IsPastedAs prefix scene clip text
 
--- The input is a scene and a clip, and the id is stored that the copy of the element at this place would have.
+-- The input is a scene and a clip, and the id is stored that the copy of the element at this place
+-- would have.
 pub record HasExisting (prefix bytes : List ℕ) (place : ℕ) : Type 0 where
   pub scene : Scene
   pub clip : Clip
   pub holds : HasSceneAndClip bytes scene clip
   pub is : IsExisting prefix scene clip place
 
--- Why nothing is pasted: the first fault of the input, and where it has none the first copy whose id is stored.
+-- Why nothing is pasted: the first fault of the input, and where it has none the first copy whose
+-- id is stored.
 abbrev pub IsPasteRefusal : List ℕ → List ℕ → Refusal → Type 0
 IsPasteRefusal prefix bytes found =
     IsSecondRefusal IsClip IsNoClip bytes found

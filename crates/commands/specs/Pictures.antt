@@ -5,11 +5,14 @@ use Rattle.json_text.specs.Compact.{Member as Pair}
 use Rattle.file_table.specs.Picture.{HasData, IsPictureSize}
 use Rattle.commands.specs.Faults.{newline}
 
--- What is told of an entry's picture: how many bytes it has, or that it isn't base64, or that there is no data URL.
+-- What is told of an entry's picture: how many bytes it has, or that it isn't base64, or that there
+-- is no data URL.
 pub data IsToldOfPicture (entry : List ℕ) : List ℕ → Type 0 where
   size : (size : ℕ) → IsPictureSize entry size → IsToldOfPicture entry (decimal size)
-  not_base64 : (content : List ℕ) → HasData entry content → ((size : ℕ) → IsPictureSize entry size → ⊥) → IsToldOfPicture entry (codes "not base64")
-  no_data_url : ((content : List ℕ) → HasData entry content → ⊥) → IsToldOfPicture entry (codes "no data url")
+  not_base64 : (content : List ℕ) → HasData entry content
+      → ((size : ℕ) → IsPictureSize entry size → ⊥) → IsToldOfPicture entry (codes "not base64")
+  no_data_url : ((content : List ℕ) → HasData entry content → ⊥)
+      → IsToldOfPicture entry (codes "no data url")
 
 -- A line on each file: its id as a string, a space, and what is told of its picture.
 abbrev pub AreLines : List Pair → List ℕ → Type 0

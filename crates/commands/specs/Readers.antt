@@ -23,13 +23,15 @@ SayScenes [] (scene ∷ scenes) = ⊥
 SayScenes (text ∷ texts) [] = ⊥
 SayScenes (text ∷ texts) (scene ∷ scenes) = IsSceneOf text scene × SayScenes texts scenes
 
--- What heads are joined to so far: a source, and settings and files in the order of their names and ids.
+-- What heads are joined to so far: a source, and settings and files in the order of their names and
+-- ids.
 pub record HeadsSoFar : Type 0 where
   pub source : Option (List ℕ)
   pub settings : List Pair
   pub files : List Pair
 
--- These heads are joined to this: the least source, and of each name and each id the least setting and file's entry.
+-- These heads are joined to this: the least source, and of each name and each id the least setting
+-- and file's entry.
 pub record AreJoined (heads : List Heading) (so_far : HeadsSoFar) : Type 0 where
   pub source : so_far.source ≡ least_source heads
   pub settings : AreLeastEntries (settings_of heads) so_far.settings

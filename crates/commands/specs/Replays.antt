@@ -1,5 +1,5 @@
--- What holds of the replicas of every session: the headline of the program, part by part. This project's own; what is
--- stored is Excalidraw's reconcile.
+-- What holds of the replicas of every session: the headline of the program, part by part. This
+-- project's own; what is stored is Excalidraw's reconcile.
 use Rattle.std.specs.Prelude.{◌≡◌, ◌≤◌, ◌<◌, ◌+◌, ℕ, List, ◌++◌, Some, Ok, Contains, drop, length, take}
 use Rattle.std.specs.List.{AllByRecursion}
 use Rattle.board_ends.specs.Ends.{SinkEnd, SourceEnd, Took}
@@ -22,8 +22,8 @@ use Rattle.commands.specs.Answers.{IsReplayed}
 use Rattle.commands.specs.Ends.{Span, WasRead, limit}
 
 -- ---- the laws on one session, each of them after any number of its events
--- Each replica stores, per id, the one update that it took and that no other one of the id beats, and
--- nothing else.
+-- Each replica stores, per id, the one update that it took and that no other one of the id beats,
+-- and nothing else.
 abbrev pub StoresTheBest : Session → Type 0
 StoresTheBest session =
     (count : ℕ) (s : Seat) → Contains (world_after session count).seats s
@@ -42,8 +42,8 @@ HasConverged session =
     → Contains (world_after session count).seats other
     → HaveSameUpdates s.taken other.taken → PrintOneScene session s other
 
--- Two replicas took the same updates, and print one scene, where no event holds updates off, and the
--- last events are deliveries that tell each replica of every message.
+-- Two replicas took the same updates, and print one scene, where no event holds updates off, and
+-- the last events are deliveries that tell each replica of every message.
 abbrev pub HasToldAll : Session → Type 0
 HasToldAll session =
     HasNoHolds session → IsToldAll session
@@ -59,8 +59,9 @@ PrintsAgreeing session =
     → HaveRisingKeys (shown_at s) × AreSettled (shown_at s)
 
 -- A replica on which nothing is pending makes changes, and as many undos follow: all is as it was
--- before, but for versions, nonces and timestamps, whatever keeps away from it meanwhile. (Nothing is
--- pending after a change, so it is so after each of the undos: as before as many of the last changes.)
+-- before, but for versions, nonces and timestamps, whatever keeps away from it meanwhile. (Nothing
+-- is pending after a change, so it is so after each of the undos: as before as many of the last
+-- changes.)
 abbrev pub BringsBack : Session → Type 0
 BringsBack session =
     (count at n : ℕ) (changes undos rest : List Event)
@@ -83,8 +84,8 @@ FindsUndos session =
     → let s = state_at (after_events undos (after_events changes (world_after session count))) at in
     IsFound s.stored (undo_on time nonce s)
 
--- Nothing is pending at a replica at which no change was captured later, whatever else happened: all is
--- captured.
+-- Nothing is pending at a replica at which no change was captured later, whatever else happened:
+-- all is captured.
 abbrev pub HasNonePending : Session → Type 0
 HasNonePending session =
     (count at : ℕ) → at < session.replicas
@@ -100,8 +101,8 @@ Captures session =
     → let s = state_at (after_events changes (world_after session count)) at in
     HasNothingPending s × IsCaptured s
 
--- Changes, some and then others, are undone, all of them, and as many redos follow as there were first
--- ones: all is as it was after these, but for versions, nonces and timestamps.
+-- Changes, some and then others, are undone, all of them, and as many redos follow as there were
+-- first ones: all is as it was after these, but for versions, nonces and timestamps.
 abbrev pub Repeats : Session → Type 0
 Repeats session =
     (count at r l : ℕ) (again others undos redos rest : List Event)
@@ -112,7 +113,8 @@ Repeats session =
     AreChangesAt at others w l
     → AreUndosAt at undos (after_events others w) (r + l)
     → AreRedosAt at redos (after_events undos (after_events others w)) r
-    → IsAs (state_at w at) (state_at (after_events redos (after_events undos (after_events others w))) at)
+    → IsAs (state_at w at) (state_at
+    (after_events redos (after_events undos (after_events others w))) at)
 
 -- While undos are left, a further redo finds an entry, and is refused for a full version alone.
 abbrev pub FindsRedos : Session → Type 0
@@ -129,8 +131,8 @@ FindsRedos session =
     IsFound s.stored (redo_on time nonce s)
 
 -- Whatever is pending and whatever others did, an undo and a redo leave what others changed: each
--- element of which the entry has no part; each member outside the stamp that its part doesn't name; and
--- of the groups and the listing all items but those that the part gained or lost.
+-- element of which the entry has no part; each member outside the stamp that its part doesn't name;
+-- and of the groups and the listing all items but those that the part gained or lost.
 abbrev pub LeavesWhatOthersChanged : Session → Type 0
 LeavesWhatOthersChanged session =
     (count at time nonce : ℕ) (turn : Turn) → at < session.replicas
@@ -147,8 +149,8 @@ LeavesWhatOthersChanged session =
 abbrev pub OfAll : (Session → Type 0) → Type 0
 OfAll Law = (bytes : List ℕ) (session : Session) → IsSessionOf bytes session → Law session
 
--- However updates are grouped, reordered, repeated or lost: after every event of every session each of
--- these laws holds.
+-- However updates are grouped, reordered, repeated or lost: after every event of every session each
+-- of these laws holds.
 abbrev pub ReplicasStoreTheBest : Type 0
 ReplicasStoreTheBest = OfAll StoresTheBest
 
@@ -183,8 +185,8 @@ abbrev pub OthersChangesStay : Type 0
 OthersChangesStay = OfAll LeavesWhatOthersChanged
 
 -- ---- of a run
--- All of these laws hold of a session, after each of its events, and so of its last world, which is that
--- after all of them.
+-- All of these laws hold of a session, after each of its events, and so of its last world, which is
+-- that after all of them.
 pub record HasLaws (session : Session) : Type 0 where
   pub last : world_after session (length session.events) ≡ last_world session
   pub replicas_store_the_best : StoresTheBest session
@@ -199,8 +201,8 @@ pub record HasLaws (session : Session) : Type 0 where
   pub redo_is_found : FindsRedos session
   pub others_changes_stay : LeavesWhatOthersChanged session
 
--- The input, read to its end, is a session of which all these laws hold, and the text of its report was
--- written.
+-- The input, read to its end, is a session of which all these laws hold, and the text of its report
+-- was written.
 pub record WroteLawfulReport (input : Span SourceEnd) (output : Span SinkEnd) : Type 0 where
   pub bytes : List ℕ
   pub read : WasRead limit input bytes

@@ -1,5 +1,5 @@
--- What serving a room does, from the scenes that it begins with to the scene that is written at its end. This project's
--- own.
+-- What serving a room does, from the scenes that it begins with to the scene that is written at its
+-- end. This project's own.
 use Rattle.std.specs.Prelude.{◌≡◌, ◌≢◌, ◌⊎◌, ℕ, List, [], ◌++◌, Some, codes, take}
 use Rattle.board_ends.specs.Counts.{Rose, one_more}
 use Rattle.board_ends.specs.Ends.{SourceEnd, SinkEnd, LinksEnd, Took}

@@ -22,7 +22,8 @@ SayEvents replicas made (text ∷ texts) (event ∷ events) =
     EventText replicas made text (Ok event)
     × SayEvents replicas (made + messages_of event) texts events
 
--- The texts are those of the session so far: its header's, and those of its events, of which there are not too many.
+-- The texts are those of the session so far: its header's, and those of its events, of which there
+-- are not too many.
 abbrev pub SaySession : List (List ℕ) → Option Session → Type 0
 SaySession [] None = Unit {0}
 SaySession (text ∷ texts) None = ⊥
@@ -31,7 +32,8 @@ SaySession (text ∷ texts) (Some session) =
     HeaderText text (Ok (header session.replicas session.seed session.scene))
     × SayEvents session.replicas 0 texts session.events × (length session.events ≤ most_events)
 
--- what is seen of a reader of a session: it needs a header, and takes no event behind the greatest number of them
+-- what is seen of a reader of a session: it needs a header, and takes no event behind the greatest
+-- number of them
 abbrev pub session_seen : Option Session → Reading TextFault
 session_seen state = record {
   has_read = λ texts. SaySession texts state;

@@ -1,4 +1,5 @@
--- Libraries that are made one, and an item of one that is inserted into a scene. This project's own.
+-- Libraries that are made one, and an item of one that is inserted into a scene. This project's
+-- own.
 use Rattle.std.specs.Prelude.{◌≡◌, ◌≢◌, ◌⊎◌, ℕ, ◌+◌, ◌≤◌, ◌==◌, List, [], ◌++◌, true, false, None, Contains, length, drop}
 use Rattle.json_text.specs.Characters.{is_blank}
 use Rattle.json_text.specs.Value.{Stands}
@@ -22,14 +23,16 @@ use Rattle.commands.specs.declared.status.Refusal.{Refusal}
 use Rattle.commands.specs.declared.status.Refusal.TheVariants as refusal
 use Rattle.commands.specs.declared.words.Insertion.{Insertion}
 
--- The input is values with these compact texts, of which there is one at least, and then white space.
+-- The input is values with these compact texts, of which there is one at least, and then white
+-- space.
 pub record HasTexts (bytes : List ℕ) (texts : List (List ℕ)) : Type 0 where
   pub some : texts ≢ []
   pub rest : List ℕ
   pub lead : TextsLead bytes texts rest
   pub space : is_blank rest ≡ true
 
--- The input is library texts, and this is the text of the library of all their best items, and a newline.
+-- The input is library texts, and this is the text of the library of all their best items, and a
+-- newline.
 pub record IsShelved (bytes text : List ℕ) : Type 0 where
   pub texts : List (List ℕ)
   pub holds : HasTexts bytes texts
@@ -37,8 +40,8 @@ pub record IsShelved (bytes text : List ℕ) : Type 0 where
   pub library : IsLibraryOfAll texts written
   pub ended : text ≡ written ++ newline
 
--- Libraries lead up to this offset, so many of them, and behind them a further text is to stand: there are none, or
--- more than white space is left.
+-- Libraries lead up to this offset, so many of them, and behind them a further text is to stand:
+-- there are none, or more than white space is left.
 pub record HasLibrariesTo (bytes : List ℕ) (start count : ℕ) : Type 0 where
   pub texts : List (List ℕ)
   pub items : List Item
@@ -48,7 +51,8 @@ pub record HasLibrariesTo (bytes : List ℕ) (start count : ℕ) : Type 0 where
   pub counted : count ≡ length texts
   pub begun : (texts ≡ []) ⊎ (is_blank (drop start bytes) ≡ false)
 
--- The text with this number, counted from 1, is the first that is no value, or no library, with this fault.
+-- The text with this number, counted from 1, is the first that is no value, or no library, with
+-- this fault.
 abbrev pub HasFaultyValue : List ℕ → ℕ → JsonFault → Type 0
 HasFaultyValue bytes number fault =
     (start : ℕ) × (count : ℕ) × (number ≡ count + 1) × HasLibrariesTo bytes start count
@@ -57,9 +61,11 @@ HasFaultyValue bytes number fault =
 abbrev pub HasFaultyLibrary : List ℕ → ℕ → LibFault → Type 0
 HasFaultyLibrary bytes number fault =
     (start : ℕ) × (count : ℕ) × (number ≡ count + 1) × HasLibrariesTo bytes start count
-    × ((text : List ℕ) × (rest : List ℕ) × Stands (drop start bytes) text rest × IsLibFault text fault)
+    × ((text : List ℕ) × (rest : List ℕ) × Stands (drop start bytes) text rest
+    × IsLibFault text fault)
 
--- The first fault of an input that is to be one library at least: the first text with a fault has it.
+-- The first fault of an input that is to be one library at least: the first text with a fault has
+-- it.
 abbrev pub IsShelfRefusal : List ℕ → Refusal → Type 0
 IsShelfRefusal bytes found =
     ((number : ℕ) × (fault : JsonFault) × (found ≡ refusal.Text number (Json fault))
@@ -111,8 +117,8 @@ HasSceneAndLibrary bytes scene items =
 abbrev pub IsBestOfId : List Item → List ℕ → Item → Type 0
 IsBestOfId items id item = IsBest items item × (item.id ≡ id)
 
--- The input is a scene and a library, and this is the text of the scene with copies of the elements of the library's
--- best item of this id, as they are pasted.
+-- The input is a scene and a library, and this is the text of the scene with copies of the elements
+-- of the library's best item of this id, as they are pasted.
 pub record IsInserted (insertion : Insertion) (bytes text : List ℕ) : Type 0 where
   pub scene : Scene
   pub items : List Item
@@ -128,8 +134,8 @@ pub record HasNoItem (id bytes : List ℕ) : Type 0 where
   pub holds : HasSceneAndLibrary bytes scene items
   pub none : (item : Item) → Contains items item → item.id ≡ id → ⊥
 
--- The input is a scene and a library, and the id is stored that the copy of the element at this place of its best item
--- of this id would have.
+-- The input is a scene and a library, and the id is stored that the copy of the element at this
+-- place of its best item of this id would have.
 pub record HasExistingOfItem (insertion : Insertion) (bytes : List ℕ) (place : ℕ) : Type 0 where
   pub scene : Scene
   pub items : List Item
@@ -138,8 +144,8 @@ pub record HasExistingOfItem (insertion : Insertion) (bytes : List ℕ) (place :
   pub best : IsBestOfId items insertion.item item
   pub is : IsExisting insertion.prefix scene (clip_of item) place
 
--- Why nothing is inserted: the first fault of the input; where it has none, that the library has no such item; else the
--- first copy whose id is stored.
+-- Why nothing is inserted: the first fault of the input; where it has none, that the library has no
+-- such item; else the first copy whose id is stored.
 abbrev pub IsInsertRefusal : Insertion → List ℕ → Refusal → Type 0
 IsInsertRefusal insertion bytes found =
     IsSecondRefusal IsLibrary IsNoLibrary bytes found

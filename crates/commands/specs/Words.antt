@@ -16,7 +16,8 @@ use Rattle.commands.specs.declared.words.Drill.{Drill}
 use Rattle.commands.specs.declared.words.Keeping.{Keeping}
 use Rattle.commands.specs.declared.words.Service.{Service}
 
--- the layout that the words behind a command ask for: `--pretty` alone, or none. This project's own.
+-- the layout that the words behind a command ask for: `--pretty` alone, or none. This project's
+-- own.
 abbrev pub asked_layout : List (List ℕ) → Option Layout
 asked_layout [] = Some Compact
 asked_layout (word ∷ []) = if bytes_eq word (codes "--pretty") then Some Pretty else None
@@ -27,8 +28,8 @@ abbrev pub asked_alone : Command → List (List ℕ) → Option Command
 asked_alone command [] = Some command
 asked_alone command (word ∷ more) = None
 
--- the form in which a journal is told that the words behind `recover` ask for: `--scene` alone, or none. This project's
--- own.
+-- the form in which a journal is told that the words behind `recover` ask for: `--scene` alone, or
+-- none. This project's own.
 abbrev pub asked_form : List (List ℕ) → Option Form
 asked_form [] = Some form.State
 asked_form (word ∷ []) = if bytes_eq word (codes "--scene") then Some form.Scene else None
@@ -47,7 +48,8 @@ asked_paste words = None
 -- the insertion that the words behind `insert` say: an item and a prefix
 abbrev pub asked_insert : List (List ℕ) → Option Command
 asked_insert (item ∷ prefix ∷ []) =
-    if is_name item && is_name prefix then Some (Insert (record { item = item; prefix = prefix })) else None
+    if is_name item && is_name prefix then Some (Insert (record { item = item; prefix = prefix }))
+    else None
 asked_insert words = None
 
 -- the command of this name with these words behind it, which takes no text from them
@@ -69,11 +71,12 @@ asked_command word options =
     else if bytes_eq word (codes "insert") then asked_insert options
     else asked_plain word options
 
--- the service that the words behind `serve` say: a port, how many links, how often nothing happens in a row, and a
--- layout
+-- the service that the words behind `serve` say: a port, how many links, how often nothing happens
+-- in a row, and a layout
 abbrev pub asked_service : List (List ℕ) → Option Service
 asked_service (port ∷ links ∷ idle ∷ options) =
-    service_of (number_within 1 65535 port) (number_within 1 1024 links) (number_within 1 4294967295 idle)
+    service_of (number_within 1 65535 port) (number_within 1 1024 links)
+    (number_within 1 4294967295 idle)
     (asked_layout options)
 asked_service words = None
 
@@ -83,19 +86,20 @@ asked_drill (seed ∷ events ∷ []) =
     drill_of (number_within 0 9007199254740991 seed) (number_within 1 200000 events)
 asked_drill words = None
 
--- what a durable room begins with that a word asks for: `--journal` for scenes, `--resume` for a journal. This
--- project's own.
+-- what a durable room begins with that a word asks for: `--journal` for scenes, `--resume` for a
+-- journal. This project's own.
 abbrev pub asked_begins : List ℕ → Option Begins
 asked_begins word =
     if bytes_eq word (codes "--journal") then Some begins.Scenes
     else if bytes_eq word (codes "--resume") then Some begins.Journal
     else None
 
--- the durable room that the words behind `serve` say: a port, how many links, how often nothing happens in a row, and
--- what it begins with
+-- the durable room that the words behind `serve` say: a port, how many links, how often nothing
+-- happens in a row, and what it begins with
 abbrev pub asked_keeping : List (List ℕ) → Option Keeping
 asked_keeping (port ∷ links ∷ idle ∷ word ∷ []) =
-    keeping_of (number_within 1 65535 port) (number_within 1 1024 links) (number_within 1 4294967295 idle)
+    keeping_of (number_within 1 65535 port) (number_within 1 1024 links)
+    (number_within 1 4294967295 idle)
     (asked_begins word)
 asked_keeping words = None
 

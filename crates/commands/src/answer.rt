@@ -85,7 +85,8 @@ fn restored_text(alloc: Global, scene: Scene, layout: Layout) -> Result<Bytes, A
     shown_text(alloc, &head, store, layout)
 }
 
-/// The text of the scene that a board shows, and a newline. What it shows is moved out of the store.
+/// The text of the scene that a board shows, and a newline. What it shows is moved out of the
+/// store.
 pub(crate) fn shown_text(
     alloc: Global,
     head: &Head,

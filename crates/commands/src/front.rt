@@ -16,7 +16,8 @@ use json_text::{Raw, skip_space};
 use scene_file::{Scene, SceneFault, read_scene};
 use std::alloc::Global;
 
-/// A scene, the value behind it, and the place of a further byte behind that which isn't white space, if there is one.
+/// A scene, the value behind it, and the place of a further byte behind that which isn't white
+/// space, if there is one.
 #[derive(Drop)]
 pub(crate) struct Front {
     pub(crate) scene: Scene,

@@ -1,5 +1,5 @@
-//! What holds of all inputs, sessions and drills, as the laws of the crates below come to. These calls do nothing when
-//! they run.
+//! What holds of all inputs, sessions and drills, as the laws of the crates below come to. These
+//! calls do nothing when they run.
 
 ghost use Rattle.commands.specs.Again.{RestoresOnce, RestoresMerges, StatesStandFor};
 ghost use Rattle.commands.specs.Answers.{Converges};

@@ -60,7 +60,8 @@ impl Heads {
 
     /// The head that they are joined to.
     pub(crate) fn finish(self) -> Result<Head, AllocError>
-        ensures { IfOk result (λ head. (heads : Items Heading) → AreJoined heads self → IsJoinedHead heads head) }
+        ensures { IfOk result (λ head. (heads : Items Heading) → AreJoined heads self
+            → IsJoinedHead heads head) }
     {
         let Heads {
             source,

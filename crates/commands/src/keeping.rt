@@ -34,7 +34,8 @@ pub(crate) fn keep<S: Source, K: Journal, L: Links>(
         (ends (span (S.seen input.old) (S.seen input.new))
         (span (K.seen output.old) (K.seen output.new))
         (span (L.seen links.old) (L.seen links.new)))) }
-    ensures fault { IfErr result (IsInputFault (limit_from keeping.begins) (IsBeginsRefusal keeping.begins)
+    ensures fault { IfErr result (IsInputFault (limit_from keeping.begins)
+        (IsBeginsRefusal keeping.begins)
         (span (S.seen input.old) (S.seen input.new))) }
     ensures output_kept { IfErr result (λ _. output.new ≡ output.old) }
     ensures links_kept { IfErr result (λ _. links.new ≡ links.old) }
@@ -74,8 +75,8 @@ fn begun<S: Source>(alloc: Global, begins: Begins, input: &mut S) -> Result<(Hea
     }
 }
 
-/// Notes the end of a durable room, where it is a fault, and gives its status. A fault of the notes changes nothing
-/// else.
+/// Notes the end of a durable room, where it is a fault, and gives its status. A fault of the notes
+/// changes nothing else.
 pub(crate) fn noted_keep_end<N: Sink>(end: KeepEnd, notes: &mut N) -> Status
     ensures status { result ≡ kept_status end }
     ensures done { (end ≡ KeepEnd.AllClosed) ⊎ (end ≡ KeepEnd.Idle) → notes.new ≡ notes.old }

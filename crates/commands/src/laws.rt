@@ -19,7 +19,8 @@ ghost use Rattle.commands.specs.declared.words.Command.{Command};
 ghost use Rattle.commands.specs.declared.words.Drill.{Drill};
 ghost use Rattle.commands.specs.declared.words.Request.{Request};
 
-/// A command is asked for by its words, where these may stand for the texts that it has, and by no others.
+/// A command is asked for by its words, where these may stand for the texts that it has, and by no
+/// others.
 pub fn words_ask()
     ensures { (command : Command) (words : List (List ℕ))
         → (asked words ≡ Some (Request.Answer command))

@@ -1,4 +1,5 @@
-//! The commands of the program: what each answers its input with, and the top call that reads, answers and writes.
+//! The commands of the program: what each answers its input with, and the top call that reads,
+//! answers and writes.
 #![tactic(auto)]
 
 mod answer;

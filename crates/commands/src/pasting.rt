@@ -18,7 +18,8 @@ use json_text::{Raw, Text};
 use scene_file::{Layout, Scene};
 use std::alloc::Global;
 
-/// The text of the scene that the bytes begin with, and into which the clip behind it is pasted under the prefix.
+/// The text of the scene that the bytes begin with, and into which the clip behind it is pasted
+/// under the prefix.
 pub(crate) fn pasted(alloc: Global, bytes: &[u8], prefix: &Text) -> Result<Bytes, Stop<Refusal>>
     ensures pasted { IfOk result (IsPasted prefix.now bytes.now) }
     ensures refused { (why : Refusal) → result ≡ Err (Stop.Fault why)
@@ -59,7 +60,8 @@ fn clip_of(alloc: Global, text: &Raw) -> Result<Clip, Stop<Refusal>>
     }
 }
 
-/// The text of the scene that is shown of the scene's board with the copies of a clip, and a newline.
+/// The text of the scene that is shown of the scene's board with the copies of a clip, and a
+/// newline.
 pub(crate) fn pasted_into(
     alloc: Global,
     scene: Scene,

@@ -25,7 +25,8 @@ pub(crate) fn picture_lines(alloc: Global, files: &List<Member>) -> Result<Bytes
 /// Appends the line on a file.
 fn push_line(alloc: Global, lines: &mut Vec<u8>, file: &Member) -> Result<(), AllocError>
     ensures { OnOk result ((told : Items ℕ) × IsToldOfPicture file.now.value told
-        × (lines.new.items ≡ lines.old.items ++ (quote file.now.name ++ (codes " " ++ (told ++ newline))))) }
+        × (lines.new.items ≡ lines.old.items
+        ++ (quote file.now.name ++ (codes " " ++ (told ++ newline))))) }
 {
     let told = told(alloc, &file.value)?;
     push_quote(lines, &file.name)?;

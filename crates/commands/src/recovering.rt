@@ -15,7 +15,8 @@ use room_disk::{KeepFault, RecoverFault, recover};
 use scene_file::{Head, Layout, state_text};
 use std::alloc::{AllocError, Global};
 
-/// The head and the store of the journal that the input is. It has no limit, and is held a line at a time.
+/// The head and the store of the journal that the input is. It has no limit, and is held a line at
+/// a time.
 pub(crate) fn recovered<S: Source>(alloc: Global, input: &mut S) -> Result<(Head, Store), Fault>
     ensures recovered { IfOk result (λ found. (bytes : Items ℕ)
         × WasRead None (span (S.seen input.old) (S.seen input.new)) bytes

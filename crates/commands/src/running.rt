@@ -36,9 +36,9 @@ use board_base::Bytes;
 use board_ends::{Failed, Journal, Links, Sink, Source, write_all};
 use std::alloc::{AllocError, Global};
 
-/// Does what the words ask for, over this input, output and links. On every answer but `Done` and `Idle` one line on
-/// the fault goes to the notes; a fault of the notes changes no status. The whole output is made before its first byte
-/// is written. No command but `serve` calls the links.
+/// Does what the words ask for, over this input, output and links. On every answer but `Done` and
+/// `Idle` one line on the fault goes to the notes; a fault of the notes changes no status. The
+/// whole output is made before its first byte is written. No command but `serve` calls the links.
 pub fn board<S: Source, K: Journal, N: Sink, L: Links>(
     alloc: Global,
     words: &[Bytes],
@@ -53,7 +53,8 @@ pub fn board<S: Source, K: Journal, N: Sink, L: Links>(
         → (input.new ≡ input.old) × ((links.new ≡ links.old)
         × Noted Fault.Usage (N.seen notes.old) (N.seen notes.new)) }
 
-    // A command that answers an input. Done: the input, read to its end, is answered with a text, and that is written.
+    // A command that answers an input. Done: the input, read to its end, is answered with a text,
+    // and that is written.
     ensures done { (command : Command) → asked words.now ≡ Some (Request.Answer command)
         → result ≡ Status.Done
         → WasDone command (span (S.seen input.old) (S.seen input.new))
@@ -65,8 +66,8 @@ pub fn board<S: Source, K: Journal, N: Sink, L: Links>(
         × WasRefused command fault (span (S.seen input.old) (S.seen input.new))
         × Noted fault (N.seen notes.old) (N.seen notes.new) }
 
-    // ReadFault and WriteFault: the count of faults rose; what was read was within the limit, and a first part was
-    // written.
+    // ReadFault and WriteFault: the count of faults rose; what was read was within the limit, and a
+    // first part was written.
     ensures read_fault { (command : Command) → asked words.now ≡ Some (Request.Answer command)
         → result ≡ Status.ReadFault
         → Rose (S.seen input.old).faults (S.seen input.new).faults
@@ -76,8 +77,9 @@ pub fn board<S: Source, K: Journal, N: Sink, L: Links>(
         → WasDoneInPart command (span (S.seen input.old) (S.seen input.new))
         (span (K.seen output.old) (K.seen output.new)) }
 
-    // Where the input tells its bytes and doesn't fail: Done with the one text that the command answers these bytes
-    // with, unless the output fails, or Refused with the one fault; or memory is wanted.
+    // Where the input tells its bytes and doesn't fail: Done with the one text that the command
+    // answers these bytes with, unless the output fails, or Refused with the one fault; or memory
+    // is wanted.
     ensures complete { (command : Command) (bytes : List ℕ)
         → asked words.now ≡ Some (Request.Answer command)
         → HasLeft (limit_of command) (S.seen input.old) bytes
@@ -111,7 +113,8 @@ pub fn board<S: Source, K: Journal, N: Sink, L: Links>(
         (ends (span (S.seen input.old) (S.seen input.new))
         (span (K.seen output.old) (K.seen output.new)) (span (L.seen links.old) (L.seen links.new)))
         (span (N.seen notes.old) (N.seen notes.new)) result }
-    // Where the input has scenes, no end fails and the links lead the room to a close: Done, or memory is wanted.
+    // Where the input has scenes, no end fails and the links lead the room to a close: Done, or
+    // memory is wanted.
     ensures serve_complete { (service : Service) → asked words.now ≡ Some (Request.Serve service)
         → IsServedToClose service
         (ends (span (S.seen input.old) (S.seen input.new))
@@ -134,15 +137,17 @@ pub fn board<S: Source, K: Journal, N: Sink, L: Links>(
         → (result ≡ Status.Memory)
         ⊎ ((result ≡ Status.Refused) × Noted Fault.TooLong (N.seen notes.old) (N.seen notes.new)) }
 
-    // A durable room: each end by its cause, what was read, sent and kept by then, and what a stop leaves of that.
+    // A durable room: each end by its cause, what was read, sent and kept by then, and what a stop
+    // leaves of that.
     ensures kept { (keeping : Keeping) → asked words.now ≡ Some (Request.Keep keeping)
         → EndsKeeping keeping
         (ends (span (S.seen input.old) (S.seen input.new))
         (span (K.seen output.old) (K.seen output.new)) (span (L.seen links.old) (L.seen links.new)))
         (span (N.seen notes.old) (N.seen notes.new)) result }
 
-    // Where the input tells its bytes and doesn't fail, a room that begins with them is kept, or they are refused with
-    // their first fault; and an input that is too long is refused; or memory is wanted.
+    // Where the input tells its bytes and doesn't fail, a room that begins with them is kept, or
+    // they are refused with their first fault; and an input that is too long is refused; or memory
+    // is wanted.
     ensures keep_input { (keeping : Keeping) (bytes : List ℕ)
         → asked words.now ≡ Some (Request.Keep keeping)
         → HasLeft (limit_from keeping.begins) (S.seen input.old) bytes
@@ -185,10 +190,11 @@ pub fn board<S: Source, K: Journal, N: Sink, L: Links>(
     // Inputs with the same updates are merged to one text.
     ensures converges { Converges }
 
-    // However updates are grouped, reordered, repeated or lost, a replica stores per id the taken element that no taken
-    // one beats; replicas that took the same updates print byte-equal scenes with strictly rising indices, where an
-    // arrow names a target exactly if the target lists it; undo without updates between restores all but version, nonce
-    // and timestamp, and redo repeats it.
+    // However updates are grouped, reordered, repeated or lost, a replica stores per id the taken
+    // element that no taken one beats; replicas that took the same updates print byte-equal scenes
+    // with strictly rising indices, where an arrow names a target exactly if the target lists it;
+    // undo without updates between restores all but version, nonce and timestamp, and redo repeats
+    // it.
     ensures replicas_store_the_best { ReplicasStoreTheBest }
     ensures replicas_converge { ReplicasConverge }
     ensures told_all_store_the_same { ToldAllStoreTheSame }
@@ -201,8 +207,8 @@ pub fn board<S: Source, K: Journal, N: Sink, L: Links>(
     ensures redo_is_found { RedoIsFound }
     ensures others_changes_stay { OthersChangesStay }
 
-    // A replay that is done wrote the report of a session of which all of these laws hold, at its end and after each
-    // event.
+    // A replay that is done wrote the report of a session of which all of these laws hold, at its
+    // end and after each event.
     ensures laws_of_a_replay { asked words.now ≡ Some (Request.Answer Command.Replay)
         → result ≡ Status.Done
         → WroteLawfulReport (span (S.seen input.old) (S.seen input.new))
@@ -216,7 +222,8 @@ pub fn board<S: Source, K: Journal, N: Sink, L: Links>(
     // In every drill no two updates clash, and its four replicas show one scene.
     ensures drills_agree { DrillsAgree }
 
-    // What was restored or merged is restored as the input itself, and the states of inputs stand for these.
+    // What was restored or merged is restored as the input itself, and the states of inputs stand
+    // for these.
     ensures restores_once { RestoresOnce }
     ensures restores_merges { RestoresMerges }
     ensures states_stand_for { StatesStandFor }
@@ -316,7 +323,8 @@ fn drill_run<K: Sink, N: Sink>(
     }
 }
 
-/// Serves a room that begins with the scenes of the input, and writes the scene at its end, or notes why not.
+/// Serves a room that begins with the scenes of the input, and writes the scene at its end, or
+/// notes why not.
 fn serve_run<S: Source, K: Sink, N: Sink, L: Links>(
     alloc: Global,
     service: Service,

@@ -1,4 +1,5 @@
-//! A room that is served: from the scenes that it begins with to the scene that is written at its end.
+//! A room that is served: from the scenes that it begins with to the scene that is written at its
+//! end.
 
 ghost use Rattle.std.specs.Prelude.{◌≡◌, ◌≢◌, ◌⊎◌, ℕ, Some, [], List as Items, IfOk, IfErr, Err};
 ghost use Rattle.board_ends.specs.Counts.{Rose};
@@ -26,7 +27,8 @@ use scene_file::{Head, Layout, elements_text};
 use std::alloc::{AllocError, Global};
 use view::shown_elements;
 
-/// Reads the scenes that a room begins with, serves it to its end, and writes the scene of what it stores then.
+/// Reads the scenes that a room begins with, serves it to its end, and writes the scene of what it
+/// stores then.
 pub(crate) fn serve<S: Source, K: Sink, L: Links>(
     alloc: Global,
     service: Service,
@@ -111,7 +113,8 @@ fn room_text(alloc: Global, head: &Head, room: &Room, layout: Layout) -> Result<
     ended(elements_text(alloc, head, shown.as_slice(), layout)?)
 }
 
-/// Notes a room's end, where it is a fault, and gives its status. A fault of the notes changes nothing else.
+/// Notes a room's end, where it is a fault, and gives its status. A fault of the notes changes
+/// nothing else.
 pub(crate) fn noted_end<N: Sink>(end: ServeEnd, notes: &mut N) -> Status
     ensures status { result ≡ end_status end }
     ensures done { (end ≡ ServeEnd.AllClosed) ⊎ (end ≡ ServeEnd.Idle) → notes.new ≡ notes.old }

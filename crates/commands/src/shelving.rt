@@ -30,7 +30,8 @@ pub(crate) fn shelved_text(alloc: Global, shelf: &Shelf) -> Result<Bytes, AllocE
     ended(library_text(alloc, shelf)?)
 }
 
-/// The text of the scene that the bytes begin with, and into which an item of the library behind it is inserted.
+/// The text of the scene that the bytes begin with, and into which an item of the library behind it
+/// is inserted.
 pub(crate) fn inserted(
     alloc: Global,
     bytes: &[u8],

@@ -77,8 +77,8 @@ pub enum Refusal {
     Library(usize, LibFault),
     /// The library has no item of the id that is to be inserted.
     NoItem,
-    /// The id is stored that the copy of the element at this place of the second text's array would have, or of the
-    /// item's elements in it.
+    /// The id is stored that the copy of the element at this place of the second text's array would
+    /// have, or of the item's elements in it.
     Exists(u64),
 }
 
@@ -138,7 +138,8 @@ impl Fault {
         }
     }
 
-    /// Notes the line of this fault, and gives its status. A fault of the notes changes nothing else.
+    /// Notes the line of this fault, and gives its status. A fault of the notes changes nothing
+    /// else.
     pub fn noted<N: Sink>(self, notes: &mut N) -> Status
         ensures status { result ≡ status_of self }
         ensures noted { Noted self (N.seen notes.old) (N.seen notes.new) }
@@ -268,7 +269,8 @@ fn library_line(number: usize, found: LibFault) -> [Piece; 11]
 /// The line on the item at this place of the library text with this number.
 fn item_line(number: u64, place: u64, fault: ItemFault) -> [Piece; 11]
     ensures { line_text result
-        ≡ text_line number (codes "item " ++ (decimal place ++ (codes ": " ++ item_fault_words fault))) }
+        ≡ text_line number (codes "item "
+        ++ (decimal place ++ (codes ": " ++ item_fault_words fault))) }
 {
     let [first, second, third, fourth] = fault.pieces();
     [
@@ -296,7 +298,8 @@ fn text_line(
     fourth: Piece,
 ) -> [Piece; 11]
     ensures { line_text result ≡ codes "board: text " ++ (decimal number ++ (words.now
-        ++ (piece_text first ++ (piece_text second ++ (piece_text third ++ (piece_text fourth ++ newline)))))) }
+        ++ (piece_text first ++ (piece_text second
+        ++ (piece_text third ++ (piece_text fourth ++ newline)))))) }
 {
     [
         Piece::Words("board: text "),

@@ -9,7 +9,8 @@ use board_base::Bytes;
 use board_ends::{Links, Sink, SureSink, SureSource};
 use std::alloc::Global;
 
-/// `board` over an input and an output that never fail: a fault of reading or of writing never comes.
+/// `board` over an input and an output that never fail: a fault of reading or of writing never
+/// comes.
 pub fn board_surely<N: Sink, L: Links>(
     alloc: Global,
     words: &[Bytes],

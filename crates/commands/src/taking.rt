@@ -18,8 +18,8 @@ use session_text::{SessionFeed, TextFault};
 use std::alloc::{AllocError, Global};
 use std::marker::Model;
 
-/// The board of the scenes that are read of an input, each of which is dropped as soon as the board has it; and the
-/// number of the next text, counted from 1.
+/// The board of the scenes that are read of an input, each of which is dropped as soon as the board
+/// has it; and the number of the next text, counted from 1.
 #[derive(Drop)]
 pub(crate) struct Gathered {
     pub(crate) heads: Heads,
@@ -117,7 +117,8 @@ impl Reader for OneScene {
     }
 }
 
-/// The best items of the libraries that are read of an input; and the number of the next text, counted from 1.
+/// The best items of the libraries that are read of an input; and the number of the next text,
+/// counted from 1.
 #[derive(Drop)]
 pub(crate) struct Shelved {
     pub(crate) shelf: Shelf,

@@ -42,7 +42,8 @@ pub enum Command {
     Replay,
     /// To recover what a journal holds, and tell it in this form.
     Recover(Form),
-    /// To paste a clip into a scene. This text, which isn't empty, stands before the ids of the copies.
+    /// To paste a clip into a scene. This text, which isn't empty, stands before the ids of the
+    /// copies.
     Paste(Text),
     /// To make one library of the best items of libraries.
     Library,
@@ -171,7 +172,8 @@ fn asked_plain(word: &Bytes, options: &[Bytes]) -> Option<Command>
     }
 }
 
-/// The form in which a journal is told that the words behind `recover` ask for: `--scene` alone, or none.
+/// The form in which a journal is told that the words behind `recover` ask for: `--scene` alone, or
+/// none.
 fn asked_form(options: &[Bytes]) -> Option<Form>
     ensures { result ≡ asked_form options.now }
 {
@@ -278,7 +280,8 @@ fn keeping_of(
     })
 }
 
-/// What a durable room begins with that this word asks for: `--journal` for scenes, `--resume` for a journal.
+/// What a durable room begins with that this word asks for: `--journal` for scenes, `--resume` for
+/// a journal.
 fn asked_begins(word: &Bytes) -> Option<Begins>
     ensures { result ≡ asked_begins word.now }
 {
@@ -348,7 +351,8 @@ fn drill_of(seed: Option<u64>, events: Option<u64>) -> Option<Drill>
     })
 }
 
-/// The number that the word is in plain decimal, if it is one at least the one number and at most the other.
+/// The number that the word is in plain decimal, if it is one at least the one number and at most
+/// the other.
 fn number_within(least: u64, most: u64, word: &Bytes) -> Option<u64>
     requires { most ≤ 9007199254740991 }
     ensures number { result ≡ number_within least most word.now }

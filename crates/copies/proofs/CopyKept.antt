@@ -16,7 +16,8 @@ use Rattle.copies.specs.Copies.{copied_end, copied_entries, copied_entry, copied
 
 module _ (among : List ℕ → Bool) (prefix : List ℕ) where
   -- what holds of a name whatever it is
-  name-where : (K : Type 0) (name : Option (List ℕ)) → IfSome name (λ _. K) → IfSome (copied_name among prefix name) (λ _. K)
+  name-where : (K : Type 0) (name : Option (List ℕ)) → IfSome name (λ _. K)
+      → IfSome (copied_name among prefix name) (λ _. K)
   name-where K None is = tt
   name-where K (Some id) is = go (among id)
     where
@@ -24,7 +25,8 @@ module _ (among : List ℕ → Bool) (prefix : List ℕ) where
       go true = is
       go false = tt
 
-  name-text : IsUtf8 prefix → (name : Option (List ℕ)) → IfSome name IsUtf8 → IfSome (copied_name among prefix name) IsUtf8
+  name-text : IsUtf8 prefix → (name : Option (List ℕ)) → IfSome name IsUtf8
+      → IfSome (copied_name among prefix name) IsUtf8
   name-text text None is = tt
   name-text text (Some id) is = go (among id)
     where
@@ -35,7 +37,8 @@ module _ (among : List ℕ → Bool) (prefix : List ℕ) where
   abbrev IsEnd : Kind → Option Binding → Type 0
   IsEnd kind binding = IfSome binding (λ b. (kind ≡ Arrow) × IsBinding b)
 
-  end-kept : (kind : Kind) (binding : Option Binding) → IsEnd kind binding → IsEnd kind (copied_end among prefix binding)
+  end-kept : (kind : Kind) (binding : Option Binding) → IsEnd kind binding
+      → IsEnd kind (copied_end among prefix binding)
   end-kept kind None is = tt
   end-kept kind (Some b) is = go (among b.target)
     where
@@ -43,7 +46,8 @@ module _ (among : List ℕ → Bool) (prefix : List ℕ) where
       go true = (is.0, record { rise = is.1.rise; free = is.1.free; nest = is.1.nest })
       go false = tt
 
-  end-text : IsUtf8 prefix → (binding : Option Binding) → IfSome binding IsBindingText → IfSome (copied_end among prefix binding) IsBindingText
+  end-text : IsUtf8 prefix → (binding : Option Binding) → IfSome binding IsBindingText
+      → IfSome (copied_end among prefix binding) IsBindingText
   end-text text None is = tt
   end-text text (Some b) is = go (among b.target)
     where
@@ -51,19 +55,23 @@ module _ (among : List ℕ → Bool) (prefix : List ℕ) where
       go true = record { target = IsUtf8-append prefix b.target text is.target; rest = is.rest }
       go false = tt
 
-  groups-text : IsUtf8 prefix → (groups : List (List ℕ)) → AllByRecursion IsUtf8 groups → AllByRecursion IsUtf8 (map (λ group. prefix ++ group) groups)
+  groups-text : IsUtf8 prefix → (groups : List (List ℕ)) → AllByRecursion IsUtf8 groups
+      → AllByRecursion IsUtf8 (map (λ group. prefix ++ group) groups)
   groups-text text [] are = tt
   groups-text text (g ∷ groups) are = (IsUtf8-append prefix g text are.0, groups-text text groups are.1)
 
   abbrev IsListed : BoundRef → Type 0
   IsListed entry = IsUtf8 entry.id
 
-  entries-text : IsUtf8 prefix → (entries : List BoundRef) → AllByRecursion IsListed entries → AllByRecursion IsListed (copied_entries among prefix entries)
+  entries-text : IsUtf8 prefix → (entries : List BoundRef) → AllByRecursion IsListed entries
+      → AllByRecursion IsListed (copied_entries among prefix entries)
   entries-text text [] are = tt
   entries-text text (entry ∷ entries) are = go (among entry.id) (entries-text text entries are.1)
     where
       go : (b : Bool) → AllByRecursion IsListed (copied_entries among prefix entries)
-          → AllByRecursion IsListed (map (copied_entry prefix) (cond b (entry ∷ filter (λ (x : BoundRef). among x.id) entries) (filter (λ (x : BoundRef). among x.id) entries)))
+          → AllByRecursion IsListed (map (copied_entry prefix)
+          (cond b (entry ∷ filter (λ (x : BoundRef). among x.id) entries)
+          (filter (λ (x : BoundRef). among x.id) entries)))
       go true others = (IsUtf8-append prefix entry.id text are.0, others)
       go false others = others
 
@@ -89,10 +97,14 @@ module _ (among : List ℕ → Bool) (prefix : List ℕ) where
   }
 
   -- the same of an element that has the parts of a copy
-  pub element-made : {e : ElementValue} {id : List ℕ} {kind : Kind} {groups : List (List ℕ)} {frame container file : Option (List ℕ)} {bound : List BoundRef} {start final : Option Binding} {rest : List Member}
-      → id ≡ prefix ++ e.id → kind ≡ e.kind → groups ≡ map (λ group. prefix ++ group) e.groups → frame ≡ copied_name among prefix e.frame
+  pub element-made : {e : ElementValue} {id : List ℕ} {kind : Kind} {groups : List (List ℕ)}
+      {frame container file : Option (List ℕ)} {bound : List BoundRef} {start final : Option Binding}
+      {rest : List Member}
+      → id ≡ prefix ++ e.id → kind ≡ e.kind → groups ≡ map (λ group. prefix ++ group) e.groups
+      → frame ≡ copied_name among prefix e.frame
       → bound ≡ copied_entries among prefix e.bound → container ≡ copied_name among prefix e.container
-      → start ≡ copied_end among prefix e.start_binding → final ≡ copied_end among prefix e.end_binding → file ≡ e.file → rest ≡ e.rest → IsElement e
+      → start ≡ copied_end among prefix e.start_binding → final ≡ copied_end among prefix e.end_binding → file ≡ e.file
+      → rest ≡ e.rest → IsElement e
       → IsElement (record {
         id = id;
         kind = kind;
@@ -147,12 +159,15 @@ module _ (among : List ℕ → Bool) (prefix : List ℕ) where
   }
 
   -- what copying keeps of each element
-  pub all-copied : (P : ElementValue → Type 0) → ((e : ElementValue) → P e → P (copy_among among prefix e)) → (list : List ElementValue) → All P list → All P (map (copy_among among prefix) list)
+  pub all-copied : (P : ElementValue → Type 0) → ((e : ElementValue) → P e → P (copy_among among prefix e))
+      → (list : List ElementValue) → All P list → All P (map (copy_among among prefix) list)
   all-copied P keeps [] all = All-nil P
   all-copied P keeps (e ∷ list) all =
-      All-cons P (copy_among among prefix e) (map (copy_among among prefix) list) (keeps e (All-head P e list all)) (all-copied P keeps list (All-tail P e list all))
+      All-cons P (copy_among among prefix e) (map (copy_among among prefix) list) (keeps e (All-head P e list all))
+      (all-copied P keeps list (All-tail P e list all))
 
-pub copies-elements : (list : List ElementValue) (prefix : List ℕ) → IsUtf8 prefix → AreElements list → AreElements (copies_of list prefix)
+pub copies-elements : (list : List ElementValue) (prefix : List ℕ) → IsUtf8 prefix → AreElements list
+    → AreElements (copies_of list prefix)
 unfolding copies_of
 copies-elements list prefix text all =
     all-copied (is_among list) prefix (λ e. IsElement e × HasValidTexts e)

@@ -27,12 +27,14 @@ module _ {X Y : Type 0} (f : X → Y) where
       ]
 
 -- ---- ids among elements
-pub among-is : (xs : List ElementValue) (id : List ℕ) → is_among xs id ≡ true → (other : ElementValue) × Contains xs other × (other.id ≡ id)
+pub among-is : (xs : List ElementValue) (id : List ℕ) → is_among xs id ≡ true → (other : ElementValue)
+    × Contains xs other × (other.id ≡ id)
 among-is [] id h = absurd (false≢true h)
 among-is (x ∷ xs) id h =
     elim (cases_Bool (has_id id x)) [
       | inl t ↦ (x, Contains-head x xs, sym (same_id id x t))
-      | inr f ↦ let r = among-is xs id (sym (ap (λ b. b || is_among xs id) f) ∙ h) in (r.0, Contains-cons x xs r.0 r.1, r.2)
+      | inr f ↦ let r =
+          among-is xs id (sym (ap (λ b. b || is_among xs id) f) ∙ h) in (r.0, Contains-cons x xs r.0 r.1, r.2)
     ]
 
 pub is-among : (xs : List ElementValue) (other : ElementValue) → Contains xs other → is_among xs other.id ≡ true
@@ -48,7 +50,8 @@ is-among (x ∷ xs) other c =
     or-true false = refl
 
 -- ---- names under a prefix
-apart-under : (prefix x : List ℕ) (ys : List (List ℕ)) → AllByRecursion (λ y. bytes_eq x y ≡ false) ys → AllByRecursion (λ y. bytes_eq (prefix ++ x) y ≡ false) (map (λ y. prefix ++ y) ys)
+apart-under : (prefix x : List ℕ) (ys : List (List ℕ)) → AllByRecursion (λ y. bytes_eq x y ≡ false) ys
+    → AllByRecursion (λ y. bytes_eq (prefix ++ x) y ≡ false) (map (λ y. prefix ++ y) ys)
 apart-under prefix x [] all = tt
 apart-under prefix x (y ∷ ys) all = (
   bytes_eq-apart (prefix ++ x) (prefix ++ y)
@@ -56,7 +59,8 @@ apart-under prefix x (y ∷ ys) all = (
   apart-under prefix x ys all.1,
 )
 
-pub distinct-under : (prefix : List ℕ) (xs : List (List ℕ)) → IsDistinct bytes_eq xs → IsDistinct bytes_eq (map (λ x. prefix ++ x) xs)
+pub distinct-under : (prefix : List ℕ) (xs : List (List ℕ)) → IsDistinct bytes_eq xs
+    → IsDistinct bytes_eq (map (λ x. prefix ++ x) xs)
 unfolding IsDistinct
 distinct-under prefix [] d = tt
 distinct-under prefix (x ∷ xs) d = (apart-under prefix x xs d.0, distinct-under prefix xs d.1)

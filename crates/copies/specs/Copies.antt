@@ -1,5 +1,5 @@
--- Copies of elements under a prefix: they name each other as the elements do, and no other element. After Excalidraw's
--- duplicating; that the prefix is the caller's is this project's own.
+-- Copies of elements under a prefix: they name each other as the elements do, and no other element.
+-- After Excalidraw's duplicating; that the prefix is the caller's is this project's own.
 use Rattle.std.specs.Prelude.{ℕ, List, ◌++◌, Bool, false, Option, Some, None, filter, map, if◌then◌else◌}
 use Rattle.std.specs.List.{list_any}
 use Rattle.elem.specs.declared.parts.BoundRef.{BoundRef}
@@ -11,7 +11,8 @@ use Rattle.elem.specs.Order.{has_id}
 abbrev pub is_among : List ElementValue → List ℕ → Bool
 is_among list id = list_any (has_id id) list
 
--- what a copy has in place of the name of an element: the copy's name, and none where no element of the list has the id
+-- what a copy has in place of the name of an element: the copy's name, and none where no element of
+-- the list has the id
 abbrev pub copied_name : (List ℕ → Bool) → List ℕ → Option (List ℕ) → Option (List ℕ)
 copied_name among prefix None = None
 copied_name among prefix (Some id) = if among id then Some (prefix ++ id) else None
@@ -20,16 +21,19 @@ copied_name among prefix (Some id) = if among id then Some (prefix ++ id) else N
 abbrev pub copied_end : (List ℕ → Bool) → List ℕ → Option Binding → Option Binding
 copied_end among prefix None = None
 copied_end among prefix (Some binding) =
-    if among binding.target then Some (record binding { target = prefix ++ binding.target }) else None
+    if among binding.target then Some (record binding { target = prefix ++ binding.target })
+    else None
 
 -- the same of a listing: the entries of other ids go
 abbrev pub copied_entry : List ℕ → BoundRef → BoundRef
 copied_entry prefix entry = record entry { id = prefix ++ entry.id }
 
 abbrev pub copied_entries : (List ℕ → Bool) → List ℕ → List BoundRef → List BoundRef
-copied_entries among prefix entries = map (copied_entry prefix) (filter (λ (entry : BoundRef). among entry.id) entries)
+copied_entries among prefix entries =
+    map (copied_entry prefix) (filter (λ (entry : BoundRef). among entry.id) entries)
 
--- the copy of an element: its id and its groups stand under the prefix, it is as new, and all else is as it was
+-- the copy of an element: its id and its groups stand under the prefix, it is as new, and all else
+-- is as it was
 unfoldable pub copy_among : (List ℕ → Bool) → List ℕ → ElementValue → ElementValue
 copy_among among prefix e = record e {
   id = prefix ++ e.id;

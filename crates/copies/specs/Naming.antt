@@ -5,8 +5,8 @@ use Rattle.elem.specs.declared.parts.Binding.{Binding}
 use Rattle.elem.specs.ElementValue.{ElementValue}
 use Rattle.copies.specs.Copies.{copy_among, is_among}
 
--- The ways in which an element names another one: by an end of an arrow, as its container, as its frame, and in its
--- listing.
+-- The ways in which an element names another one: by an end of an arrow, as its container, as its
+-- frame, and in its listing.
 pub data Way : Type 0 where
   ByStart : Way
   ByEnd : Way

@@ -14,8 +14,9 @@ use json_text::{Member, Text};
 use std::alloc::{AllocError, Global};
 use std::collections::BTreeSet;
 
-/// A copy of each element, in their order: its id and its groups stand under the prefix, and so do the names of
-/// elements of the list; other names go. Each copy is as new, and has no key. Fails only for want of memory.
+/// A copy of each element, in their order: its id and its groups stand under the prefix, and so do
+/// the names of elements of the list; other names go. Each copy is as new, and has no key. Fails
+/// only for want of memory.
 pub fn copies(alloc: Global, list: &[Element], prefix: &Text) -> Result<List<Element>, AllocError>
     ensures exact { IfOk result (λ copies. copies ≡ copies_of list.now prefix.now) }
 {
@@ -35,7 +36,8 @@ fn copy(
     prefix: &Text,
     e: &Element,
 ) -> Result<Element, AllocError>
-    ensures { IfOk result (λ copy. copy ≡ copy_among (contains (slice_cmp nat_cmp) ids.now) prefix.now e.now) }
+    ensures { IfOk result (λ copy. copy ≡ copy_among (contains (slice_cmp nat_cmp) ids.now)
+        prefix.now e.now) }
 {
     Ok(Element {
         id: prefixed(alloc, prefix, &e.id)?,
@@ -83,7 +85,8 @@ fn copied_name(
     prefix: &Text,
     name: &Option<Text>,
 ) -> Result<Option<Text>, AllocError>
-    ensures { IfOk result (λ new. new ≡ copied_name (contains (slice_cmp nat_cmp) ids.now) prefix.now name.now) }
+    ensures { IfOk result (λ new. new ≡ copied_name (contains (slice_cmp nat_cmp) ids.now)
+        prefix.now name.now) }
 {
     match name {
         Some(id) if ids.contains(id) => Ok(Some(prefixed(alloc, prefix, id)?)),
@@ -98,7 +101,8 @@ fn copied_end(
     prefix: &Text,
     binding: &Option<Binding>,
 ) -> Result<Option<Binding>, AllocError>
-    ensures { IfOk result (λ new. new ≡ copied_end (contains (slice_cmp nat_cmp) ids.now) prefix.now binding.now) }
+    ensures { IfOk result (λ new. new ≡ copied_end (contains (slice_cmp nat_cmp) ids.now) prefix.now
+        binding.now) }
 {
     match binding {
         Some(binding) if ids.contains(&binding.target) => Ok(Some(Binding {
@@ -116,7 +120,8 @@ fn copied_entries(
     prefix: &Text,
     entries: &List<BoundRef>,
 ) -> Result<List<BoundRef>, AllocError>
-    ensures { IfOk result (λ new. new ≡ copied_entries (contains (slice_cmp nat_cmp) ids.now) prefix.now entries.now) }
+    ensures { IfOk result (λ new. new ≡ copied_entries (contains (slice_cmp nat_cmp) ids.now)
+        prefix.now entries.now) }
 {
     let mut new = Vec::new(alloc);
     for entry in entries.as_slice() {

@@ -13,7 +13,8 @@ use std::collections::BTreeSet;
 
 /// The ids of elements.
 pub(crate) fn ids_of(alloc: Global, list: &[Element]) -> Result<BTreeSet<Text>, AllocError>
-    ensures { IfOk result (λ ids. (id : Items ℕ) → contains (slice_cmp nat_cmp) ids id ≡ is_among list.now id) }
+    ensures { IfOk result (λ ids. (id : Items ℕ)
+        → contains (slice_cmp nat_cmp) ids id ≡ is_among list.now id) }
 {
     let mut ids = BTreeSet::new(alloc);
     for e in list {
@@ -22,9 +23,11 @@ pub(crate) fn ids_of(alloc: Global, list: &[Element]) -> Result<BTreeSet<Text>, 
     Ok(ids)
 }
 
-/// Adds the id of an element, and tells whether it is new. Fails only for want of memory; the set is then unchanged.
+/// Adds the id of an element, and tells whether it is new. Fails only for want of memory; the set
+/// is then unchanged.
 pub fn see(ids: &mut BTreeSet<Text>, e: &Element) -> Result<bool, AllocError>
-    ensures first { IfOk result (λ first. first ≡ not (contains (slice_cmp nat_cmp) ids.old e.now.id)) }
+    ensures first { IfOk result (λ first. first
+        ≡ not (contains (slice_cmp nat_cmp) ids.old e.now.id)) }
     ensures seen { OnOk result ((other : Items ℕ)
         → contains (slice_cmp nat_cmp) ids.new other
         ≡ (bytes_eq other e.now.id || contains (slice_cmp nat_cmp) ids.old other)) }

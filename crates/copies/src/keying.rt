@@ -10,8 +10,8 @@ use elem::Element;
 use frac_keys::{Key, n_between};
 use std::alloc::{AllocError, Global};
 
-/// The elements with keys between two ends, in their order; an absent end is beyond all keys. Fails only for want of
-/// memory.
+/// The elements with keys between two ends, in their order; an absent end is beyond all keys. Fails
+/// only for want of memory.
 pub fn keyed_between(
     alloc: Global,
     elements: List<Element>,

@@ -8,7 +8,8 @@ ghost use Rattle.elem.specs.Said.{AreElements};
 ghost use Rattle.copies.specs.Copies.{copies_of};
 ghost use Rattle.copies.specs.Naming.{Way, Names, copy_of};
 
-/// Among the copies one names another one, in whatever way, exactly where its original names the other's original.
+/// Among the copies one names another one, in whatever way, exactly where its original names the
+/// other's original.
 pub fn copies_name_as_originals_do()
     ensures { (list : List ElementValue) (prefix : List ℕ) (way : Way) (e other : ElementValue)
         → Contains list other
@@ -17,7 +18,8 @@ pub fn copies_name_as_originals_do()
 
 /// What a copy names is a copy.
 pub fn copies_name_copies_alone()
-    ensures { (list : List ElementValue) (prefix : List ℕ) (way : Way) (copy : ElementValue) (id : List ℕ)
+    ensures { (list : List ElementValue) (prefix : List ℕ) (way : Way) (copy : ElementValue)
+        (id : List ℕ)
         → Contains (copies_of list prefix) copy → Names way copy id
         → (other : ElementValue) × Contains (copies_of list prefix) other × (other.id ≡ id) }
 {}
@@ -28,7 +30,8 @@ pub fn groups_of_copies_are_copied()
         → Contains (copy_of list prefix e).groups (prefix ++ group) ↔ Contains e.groups group }
     ensures only { (list : List ElementValue) (prefix name : List ℕ) (copy : ElementValue)
         → Contains (copies_of list prefix) copy → Contains copy.groups name
-        → (group : List ℕ) × (name ≡ prefix ++ group) × (e : ElementValue) × Contains list e × Contains e.groups group }
+        → (group : List ℕ) × (name ≡ prefix ++ group) × (e : ElementValue) × Contains list e
+        × Contains e.groups group }
 {}
 
 /// The ids of copies are distinct where those of the originals are.

@@ -30,7 +30,9 @@ OnOk-weaker (Ok x) P Q f h = f h
 OnOk-weaker (Err e) P Q f h = h
 
 -- ---- an element of which a further member was set
-pub IsScalarSet-member : (e : ElementValue) (name : List ℕ) (value : Option (List ℕ)) (rest : List Member) → header_named e.kind name ≡ None → IsRising (pairs e.rest) → rest ≡ with_value name value e.rest → IsScalarSet e (record e { rest = rest }) name value
+pub IsScalarSet-member : (e : ElementValue) (name : List ℕ) (value : Option (List ℕ)) (rest : List Member)
+    → header_named e.kind name ≡ None → IsRising (pairs e.rest) → rest ≡ with_value name value e.rest
+    → IsScalarSet e (record e { rest = rest }) name value
 IsScalarSet-member e name value rest other rise is = record {
   stamp = record { id = refl; kind = refl; version = refl; nonce = refl; updated = refl };
   groups = refl;
@@ -41,13 +43,17 @@ IsScalarSet-member e name value rest other rise is = record {
     some-none : (h : Header) → Some h ≡ None → ⊥
     some-none h e = cc
 
-    each : (n : List ℕ) (o : Option Header) → header_named e.kind n ≡ o → scalar_at (record e { rest = rest }) n o ≡ (if bytes_eq n name then value else scalar_at e n o)
+    each : (n : List ℕ) (o : Option Header) → header_named e.kind n ≡ o
+        → scalar_at (record e { rest = rest }) n o ≡ (if bytes_eq n name then value else scalar_at e n o)
     each n None here = ap (value_named n) is ∙ named-with_value n name value e.rest rise
     each n (Some h) here =
         ap Some (header_kept e rest h)
-        ∙ sym (ap (λ b. if b then value else scalar_at e n (Some h)) (bytes_eq-apart n name (λ same. some-none h (sym here ∙ ap (header_named e.kind) same ∙ other))))
+        ∙ sym (ap (λ b. if b then value else scalar_at e n (Some h))
+        (bytes_eq-apart n name (λ same. some-none h (sym here ∙ ap (header_named e.kind) same ∙ other))))
 
-pub IsElement-rest : (e : ElementValue) (name : List ℕ) (value : Option (List ℕ)) (rest : List Member) → IsElement e → is_header e.kind name ≡ false → IfSome value (IsCompact 119) → rest ≡ with_value name value e.rest → IsElement (record e { rest = rest })
+pub IsElement-rest : (e : ElementValue) (name : List ℕ) (value : Option (List ℕ)) (rest : List Member) → IsElement e
+    → is_header e.kind name ≡ false → IfSome value (IsCompact 119) → rest ≡ with_value name value e.rest
+    → IsElement (record e { rest = rest })
 IsElement-rest e name value rest old free compact is = record {
   named = old.named;
   version = old.version;
@@ -62,25 +68,35 @@ IsElement-rest e name value rest old free compact is = record {
   free =
       let P : Member → Type 0 = λ m. is_header e.kind m.name ≡ false in
       ap (λ ms. list_any (is_header e.kind) (names ms)) is
-      ∙ list_any-each (is_header e.kind) (with_value name value e.rest) (each-with_value P name value e.rest (new P (λ v. free) value) (each-list_any (is_header e.kind) e.rest old.free));
+      ∙ list_any-each (is_header e.kind) (with_value name value e.rest)
+      (each-with_value P name value e.rest (new P (λ v. free) value)
+      (each-list_any (is_header e.kind) e.rest old.free));
   nest =
       let P : Member → Type 0 = λ m. IsCompact 119 m.value in
       subst (AllByRecursion P) (sym is) (each-with_value P name value e.rest (valued value compact) old.nest);
 }
   where
-    new : (P : Member → Type 0) → ((v : List ℕ) → P (record { name = name; value = v })) → (value : Option (List ℕ)) → AllByRecursion P (made name value)
+    new : (P : Member → Type 0) → ((v : List ℕ) → P (record { name = name; value = v })) → (value : Option (List ℕ))
+        → AllByRecursion P (made name value)
     new P h None = tt
     new P h (Some v) = (h v, tt)
 
-    valued : (value : Option (List ℕ)) → IfSome value (IsCompact 119) → AllByRecursion (λ (m : Member). IsCompact 119 m.value) (made name value)
+    valued : (value : Option (List ℕ)) → IfSome value (IsCompact 119)
+        → AllByRecursion (λ (m : Member). IsCompact 119 m.value) (made name value)
     valued None h = tt
     valued (Some v) h = (h, tt)
 
 -- ---- one change
 pub Changes-none : (e : ElementValue) → Changes [] e e
-Changes-none e = record { stamp = record { id = refl; kind = refl; version = refl; nonce = refl; updated = refl }; scalars = λ n. refl; groups = refl; bound = refl }
+Changes-none e = record {
+  stamp = record { id = refl; kind = refl; version = refl; nonce = refl; updated = refl };
+  scalars = λ n. refl;
+  groups = refl;
+  bound = refl;
+}
 
-pub Changes-scalar : (old new : ElementValue) (name : List ℕ) (before after : Option (List ℕ)) → IsScalarSet old new name after → Changes (Scalar name before after ∷ []) old new
+pub Changes-scalar : (old new : ElementValue) (name : List ℕ) (before after : Option (List ℕ))
+    → IsScalarSet old new name after → Changes (Scalar name before after ∷ []) old new
 Changes-scalar old new name before after set = record {
   stamp = set.stamp;
   scalars = λ n. set.scalars n ∙ chosen (bytes_eq n name) (scalar_of old n);
@@ -88,7 +104,8 @@ Changes-scalar old new name before after set = record {
   bound = set.bound ∙ same_bound (bytes_eq (codes "boundElements") name);
 }
   where
-    chosen : (b : Bool) (now : Option (List ℕ)) → (if b then after else now) ≡ scalar_after (cond b (Some (Scalar name before after)) None) now
+    chosen : (b : Bool) (now : Option (List ℕ)) → (if b then after else now)
+        ≡ scalar_after (cond b (Some (Scalar name before after)) None) now
     chosen true now = refl
     chosen false now = refl
 
@@ -101,7 +118,8 @@ Changes-scalar old new name before after set = record {
     same_bound false = refl
 
 -- ---- one change more
-pub Changes-more : (cs : List Change) (c : Change) (a b d : ElementValue) → Changes cs a b → Changes (c ∷ []) b d → change_of cs (name_of c) ≡ None → Changes (cs ++ c ∷ []) a d
+pub Changes-more : (cs : List Change) (c : Change) (a b d : ElementValue) → Changes cs a b → Changes (c ∷ []) b d
+    → change_of cs (name_of c) ≡ None → Changes (cs ++ c ∷ []) a d
 Changes-more cs c a b d first next none = record {
   stamp = record {
     id = next.stamp.id ∙ first.stamp.id;
@@ -110,26 +128,34 @@ Changes-more cs c a b d first next none = record {
     nonce = next.stamp.nonce ∙ first.stamp.nonce;
     updated = next.stamp.updated ∙ first.stamp.updated;
   };
-  scalars = λ n. next.scalars n ∙ ap (scalar_after (change_of (c ∷ []) n)) (first.scalars n) ∙ joins scalar_after (λ x. refl) n (scalar_of a n);
-  groups = next.groups ∙ ap (groups_after (change_of (c ∷ []) (codes "groupIds"))) first.groups ∙ joins groups_after (λ x. refl) (codes "groupIds") a.groups;
-  bound = next.bound ∙ ap (bound_after (change_of (c ∷ []) (codes "boundElements"))) first.bound ∙ joins bound_after (λ x. refl) (codes "boundElements") a.bound;
+  scalars = λ n. next.scalars n ∙ ap (scalar_after (change_of (c ∷ []) n)) (first.scalars n)
+      ∙ joins scalar_after (λ x. refl) n (scalar_of a n);
+  groups = next.groups ∙ ap (groups_after (change_of (c ∷ []) (codes "groupIds"))) first.groups
+      ∙ joins groups_after (λ x. refl) (codes "groupIds") a.groups;
+  bound = next.bound ∙ ap (bound_after (change_of (c ∷ []) (codes "boundElements"))) first.bound
+      ∙ joins bound_after (λ x. refl) (codes "boundElements") a.bound;
 }
   where
     none-some : (x : Change) → None ≡ Some x → ⊥
     none-some x e = cc
 
-    chosen : {X : Type 0} (after : Option Change → X → X) → ((x : X) → after None x ≡ x) → (x : X) (o : Option Change) (b : Bool) → (b ≡ true → o ≡ None) → after (cond b (Some c) None) (after o x) ≡ after (option_or o (cond b (Some c) None)) x
+    chosen : {X : Type 0} (after : Option Change → X → X) → ((x : X) → after None x ≡ x)
+        → (x : X) (o : Option Change) (b : Bool) → (b ≡ true → o ≡ None)
+        → after (cond b (Some c) None) (after o x) ≡ after (option_or o (cond b (Some c) None)) x
     chosen after nothing x None true h = ap (after (Some c)) (nothing x)
     chosen after nothing x None false h = nothing (after None x)
     chosen after nothing x (Some d) true h = absurd (none-some d (sym (h refl)))
     chosen after nothing x (Some d) false h = nothing (after (Some d) x)
 
-    joins : {X : Type 0} (after : Option Change → X → X) → ((x : X) → after None x ≡ x) → (n : List ℕ) (x : X) → after (change_of (c ∷ []) n) (after (change_of cs n) x) ≡ after (change_of (cs ++ c ∷ []) n) x
+    joins : {X : Type 0} (after : Option Change → X → X) → ((x : X) → after None x ≡ x) → (n : List ℕ) (x : X)
+        → after (change_of (c ∷ []) n) (after (change_of cs n) x) ≡ after (change_of (cs ++ c ∷ []) n) x
     joins after nothing n x =
-        chosen after nothing x (change_of cs n) (bytes_eq n (name_of c)) (λ t. ap (change_of cs) (bytes_eq-true n (name_of c) t) ∙ none)
+        chosen after nothing x (change_of cs n) (bytes_eq n (name_of c))
+        (λ t. ap (change_of cs) (bytes_eq-true n (name_of c) t) ∙ none)
         ∙ sym (ap (λ o. after o x) (find-append (λ change. bytes_eq n (name_of change)) cs (c ∷ [])))
 
-pub each-change : (P : Change → Type 0) (cs : List Change) (i : ℕ) (c : Change) → AllByRecursion P cs → i < length cs → c ≡ get_or cs i c → P c
+pub each-change : (P : Change → Type 0) (cs : List Change) (i : ℕ) (c : Change) → AllByRecursion P cs → i < length cs
+    → c ≡ get_or cs i c → P c
 each-change P [] i c h l here = absurd (omega arith)
 each-change P (d ∷ ds) zero c h l here = subst P (sym here) h.0
 each-change P (d ∷ ds) (suc i) c h l here = each-change P ds i c h.1 (omega arith) here
@@ -147,7 +173,8 @@ abbrev pub partly : {X : Type 0} → (X → X) → ℕ → List X → List X
 partly f i xs = map f (take i xs) ++ drop i xs
 
 module _ {X : Type 0} (f : X → X) where
-  pub partly-more : (xs : List X) (i : ℕ) (d new : X) → i < length xs → new ≡ f (get_or (partly f i xs) i d) → set (partly f i xs) i new ≡ partly f (suc i) xs
+  pub partly-more : (xs : List X) (i : ℕ) (d new : X) → i < length xs → new ≡ f (get_or (partly f i xs) i d)
+      → set (partly f i xs) i new ≡ partly f (suc i) xs
   partly-more [] i d new l is = absurd (omega arith)
   partly-more (x ∷ xs) zero d new l is = ap (λ y. y ∷ xs) is
   partly-more (x ∷ xs) (suc i) d new l is = ap (λ ys. f x ∷ ys) (partly-more xs i d new (omega arith) is)
@@ -186,6 +213,7 @@ IsPart-inverse part is = record {
     one (Groups before after) h = tt
     one (Bound before after) h = tt
 
-    all : (cs : List Change) → AllByRecursion (IsChange part.kind) cs → AllByRecursion (IsChange part.kind) (map inverted cs)
+    all : (cs : List Change) → AllByRecursion (IsChange part.kind) cs
+        → AllByRecursion (IsChange part.kind) (map inverted cs)
     all [] h = tt
     all (c ∷ cs) h = (one c h.0, all cs h.1)

@@ -32,7 +32,8 @@ stands_plain c = bytes_eq (quoted_byte c) (c ∷ []) && (not (c == 34) && not (c
 
 stands_letter : ℕ → Bool
 stands_letter c =
-    bytes_eq (quoted_byte c) (92 ∷ get_or (quoted_byte c) 1 0 ∷ []) && (not (get_or (quoted_byte c) 1 0 == 117) && letter_meaning (get_or (quoted_byte c) 1 0) == c)
+    bytes_eq (quoted_byte c) (92 ∷ get_or (quoted_byte c) 1 0 ∷ [])
+    && (not (get_or (quoted_byte c) 1 0 == 117) && letter_meaning (get_or (quoted_byte c) 1 0) == c)
 
 stands_unit : ℕ → Bool
 stands_unit c =
@@ -70,7 +71,8 @@ low-Coded c h = elim (or-cases (stands_plain c) (stands_letter c || stands_unit 
     | inr p ↦
         let h = get_or (quoted_byte c) 4 0 in
         let l = get_or (quoted_byte c) 5 0 in
-        let parts = and_parts (bytes_eq (quoted_byte c) (92 ∷ 117 ∷ 48 ∷ 48 ∷ h ∷ l ∷ [])) (hex_value h * 16 + hex_value l == c) p in
+        let parts = and_parts (bytes_eq (quoted_byte c) (92 ∷ 117 ∷ 48 ∷ 48 ∷ h ∷ l ∷ []))
+        (hex_value h * 16 + hex_value l == c) p in
         subst (Coded c) (sym (bytes_eq-true _ _ parts.0)) (unit h l (equal (hex_value h * 16 + hex_value l) c parts.1))
   ]
 ]
@@ -95,26 +97,36 @@ coded-split r s (plain m n) (plain m' n') e = (first-same e, tail-same e)
 coded-split r s (plain m n) (letter l m' n') e = absurd (n (first-same e))
 coded-split r s (plain m n) (unit h l m') e = absurd (n (first-same e))
 coded-split r s (letter l m n) (plain m' n') e = absurd (n' (sym (first-same e)))
-coded-split r s (letter l m n) (letter k m' n') e = (sym n ∙ ap letter_meaning (first-same (tail-same e)) ∙ n', tail-same (tail-same e))
+coded-split r s (letter l m n) (letter k m' n') e =
+    (sym n ∙ ap letter_meaning (first-same (tail-same e)) ∙ n', tail-same (tail-same e))
 coded-split r s (letter l m n) (unit h k m') e = absurd (m (first-same (tail-same e)))
 coded-split r s (unit h l m) (plain m' n') e = absurd (n' (sym (first-same e)))
 coded-split r s (unit h l m) (letter k m' n') e = absurd (m' (sym (first-same (tail-same e))))
 coded-split r s (unit h l m) (unit g k m') e =
     let high = first-same (tail-same (tail-same (tail-same (tail-same e)))) in
-    let low = first-same (tail-same (tail-same (tail-same (tail-same (tail-same e))))) in
-    (sym m ∙ ap (λ x. hex_value x * 16 + hex_value l) high ∙ ap (λ x. hex_value g * 16 + hex_value x) low ∙ m', tail-same (tail-same (tail-same (tail-same (tail-same (tail-same e))))))
+    let low = first-same (tail-same (tail-same (tail-same (tail-same (tail-same e))))) in (
+      sym m ∙ ap (λ x. hex_value x * 16 + hex_value l) high ∙ ap (λ x. hex_value g * 16 + hex_value x) low
+          ∙ m',
+      tail-same (tail-same (tail-same (tail-same (tail-same (tail-same e))))),
+    )
 
 coded-open : {c : ℕ} {q : List ℕ} (r s : List ℕ) → Coded c q → q ++ r ≡ 34 ∷ s → ⊥
 coded-open r s (plain m n) e = m (first-same e)
 coded-open r s (letter l m n) e = heads-differ 92 34 _ _ refl e
 coded-open r s (unit h l m) e = heads-differ 92 34 _ _ refl e
 
-inner-split : (a b x y : List ℕ) → flat_map quoted_byte a ++ 34 ∷ x ≡ flat_map quoted_byte b ++ 34 ∷ y → (a ≡ b) × (x ≡ y)
+inner-split : (a b x y : List ℕ) → flat_map quoted_byte a ++ 34 ∷ x ≡ flat_map quoted_byte b ++ 34 ∷ y → (a ≡ b)
+    × (x ≡ y)
 inner-split [] [] x y e = (refl, tail-same e)
-inner-split [] (d ∷ ds) x y e = absurd (coded-open _ x (quoted-Coded d) (sym (append_assoc (quoted_byte d) (flat_map quoted_byte ds) (34 ∷ y)) ∙ sym e))
-inner-split (c ∷ cs) [] x y e = absurd (coded-open _ y (quoted-Coded c) (sym (append_assoc (quoted_byte c) (flat_map quoted_byte cs) (34 ∷ x)) ∙ e))
+inner-split [] (d ∷ ds) x y e =
+    absurd (coded-open _ x (quoted-Coded d) (sym (append_assoc (quoted_byte d) (flat_map quoted_byte ds) (34 ∷ y))
+    ∙ sym e))
+inner-split (c ∷ cs) [] x y e =
+    absurd (coded-open _ y (quoted-Coded c) (sym (append_assoc (quoted_byte c) (flat_map quoted_byte cs) (34 ∷ x)) ∙ e))
 inner-split (c ∷ cs) (d ∷ ds) x y e =
-    let both = coded-split _ _ (quoted-Coded c) (quoted-Coded d) (sym (append_assoc (quoted_byte c) (flat_map quoted_byte cs) (34 ∷ x)) ∙ e ∙ append_assoc (quoted_byte d) (flat_map quoted_byte ds) (34 ∷ y)) in
+    let both = coded-split _ _ (quoted-Coded c) (quoted-Coded d)
+    (sym (append_assoc (quoted_byte c) (flat_map quoted_byte cs) (34 ∷ x)) ∙ e
+    ∙ append_assoc (quoted_byte d) (flat_map quoted_byte ds) (34 ∷ y)) in
     let rest = inner-split cs ds x y both.1 in
     (λ i. both.0 i ∷ rest.0 i, rest.1)
 
@@ -122,7 +134,8 @@ inner-split (c ∷ cs) (d ∷ ds) x y e =
 quote-split : (a b x y : List ℕ) → quote a ++ x ≡ quote b ++ y → (a ≡ b) × (x ≡ y)
 unfolding quote
 quote-split a b x y e =
-    inner-split a b x y (sym (append_assoc (flat_map quoted_byte a) (34 ∷ []) x) ∙ tail-same e ∙ append_assoc (flat_map quoted_byte b) (34 ∷ []) y)
+    inner-split a b x y (sym (append_assoc (flat_map quoted_byte a) (34 ∷ []) x) ∙ tail-same e
+    ∙ append_assoc (flat_map quoted_byte b) (34 ∷ []) y)
 
 pub quote-same : (a b : List ℕ) → quote a ≡ quote b → a ≡ b
 quote-same a b e = (quote-split a b [] [] (ap (λ q. q ++ []) e)).0
@@ -132,7 +145,15 @@ abbrev pub EndsItself : List ℕ → Type 0
 EndsItself v = IsCompact 127 v ⊎ ((t : List ℕ) × (v ≡ quote t))
 
 stands : (v r : List ℕ) → IsCompact 127 v → Follows v r → Stands (v ++ r) v r
-stands v r compact ends = record { blank = []; value = v; parts = refl; space = refl; reads = Value-deeper (omega arith) compact; ends = ends }
+stands v r compact ends = record {
+  blank = [];
+  value = v;
+  parts = refl;
+  space = refl;
+  reads =
+      Value-deeper (omega arith) compact;
+  ends = ends;
+}
 
 compact-quote : (v u r s : List ℕ) → IsCompact 127 v → v ++ r ≡ quote u ++ s → (v ≡ quote u) × (r ≡ s)
 unfolding quote
@@ -144,8 +165,10 @@ compact-quote v u r s compact e =
     let both = quote-split form.0 u r s (sym (ap (λ w. w ++ r) form.2) ∙ e) in
     (form.2 ∙ ap quote both.0, both.1)
 
-value-split : (v w r s : List ℕ) → EndsItself v → EndsItself w → Follows v r → Follows w s → v ++ r ≡ w ++ s → (v ≡ w) × (r ≡ s)
-value-split v w r s (inl c) (inl d) f g e = Stands-once (stands v r c f) (subst (λ b. Stands b w s) (sym e) (stands w s d g))
+value-split : (v w r s : List ℕ) → EndsItself v → EndsItself w → Follows v r → Follows w s → v ++ r ≡ w ++ s → (v ≡ w)
+    × (r ≡ s)
+value-split v w r s (inl c) (inl d) f g e =
+    Stands-once (stands v r c f) (subst (λ b. Stands b w s) (sym e) (stands w s d g))
 value-split v w r s (inl c) (inr (u, q)) f g e =
     let both = compact-quote v u r s c (e ∙ ap (λ x. x ++ s) q) in
     (both.0 ∙ sym q, both.1)
@@ -164,8 +187,10 @@ follows-after : (v : List ℕ) (ms : List Pair) → Follows v (after ms)
 follows-after v [] = λ _. refl
 follows-after v (m ∷ ms) = λ _. refl
 
-split : (m : Pair) (ms : List Pair) → join_with_byte 44 (map member_text (m ∷ ms)) ++ 125 ∷ [] ≡ quote m.0 ++ (58 ∷ (m.1 ++ after ms))
-split m ms = behind-split object [] (member_text m) (map member_text ms) ∙ append_assoc (quote m.0) (58 ∷ m.1) (after ms)
+split : (m : Pair) (ms : List Pair) → join_with_byte 44 (map member_text (m ∷ ms)) ++ 125 ∷ [] ≡ quote m.0
+    ++ (58 ∷ (m.1 ++ after ms))
+split m ms =
+    behind-split object [] (member_text m) (map member_text ms) ∙ append_assoc (quote m.0) (58 ∷ m.1) (after ms)
 
 quoted-open : (t r : List ℕ) → quote t ++ r ≡ 125 ∷ [] → ⊥
 unfolding quote
@@ -180,17 +205,20 @@ after-same [] (n ∷ ns) are are' e = absurd (heads-differ 125 44 _ _ refl e)
 after-same (m ∷ ms) [] are are' e = absurd (heads-differ 44 125 _ _ refl e)
 after-same (m ∷ ms) (n ∷ ns) are are' e =
     let name = quote-split m.0 n.0 _ _ (sym (split m ms) ∙ tail-same e ∙ split n ns) in
-    let value = value-split m.1 n.1 (after ms) (after ns) are.0 are'.0 (follows-after m.1 ms) (follows-after n.1 ns) (tail-same name.1) in
+    let value = value-split m.1 n.1 (after ms) (after ns) are.0 are'.0 (follows-after m.1 ms) (follows-after n.1 ns)
+    (tail-same name.1) in
     let rest = after-same ms ns are.1 are'.1 value.1 in
     λ i. (name.0 i, value.0 i) ∷ rest i
 
-members-same : (ms ns : List Pair) → AreEnding ms → AreEnding ns → join_with_byte 44 (map member_text ms) ++ 125 ∷ [] ≡ join_with_byte 44 (map member_text ns) ++ 125 ∷ [] → ms ≡ ns
+members-same : (ms ns : List Pair) → AreEnding ms → AreEnding ns → join_with_byte 44 (map member_text ms) ++ 125 ∷ []
+    ≡ join_with_byte 44 (map member_text ns) ++ 125 ∷ [] → ms ≡ ns
 members-same [] [] are are' e = refl
 members-same [] (n ∷ ns) are are' e = absurd (quoted-open n.0 _ (sym (split n ns) ∙ sym e))
 members-same (m ∷ ms) [] are are' e = absurd (quoted-open m.0 _ (sym (split m ms) ∙ e))
 members-same (m ∷ ms) (n ∷ ns) are are' e = after-same (m ∷ ms) (n ∷ ns) are are' (ap (λ r. 44 ∷ r) e)
 
-pub object-same : (ms ns : List Pair) → AllByRecursion (λ (m : Pair). EndsItself m.1) ms → AllByRecursion (λ (m : Pair). EndsItself m.1) ns → object_text ms ≡ object_text ns → ms ≡ ns
+pub object-same : (ms ns : List Pair) → AllByRecursion (λ (m : Pair). EndsItself m.1) ms
+    → AllByRecursion (λ (m : Pair). EndsItself m.1) ns → object_text ms ≡ object_text ns → ms ≡ ns
 unfolding object_text
 object-same ms ns are are' e = members-same ms ns are are' (tail-same e)
 
@@ -210,39 +238,50 @@ pairs-same (m ∷ ms) (n ∷ ns) e =
 abbrev pub binding_members : Binding → List Member
 binding_members binding = with_value (codes "elementId") (Some (quote binding.target)) binding.rest
 
-pub binding-object : (binding : Binding) → IsBinding binding → binding_text (Some binding) ≡ object_text (pairs (binding_members binding))
-binding-object binding is = ap object_text (sorted-with_value (codes "elementId") (quote binding.target) binding.rest (risen binding.rest is.rise) is.free)
+pub binding-object : (binding : Binding) → IsBinding binding
+    → binding_text (Some binding) ≡ object_text (pairs (binding_members binding))
+binding-object binding is = ap object_text (sorted-with_value (codes "elementId") (quote binding.target) binding.rest
+    (risen binding.rest is.rise) is.free)
 
-pairs-each : (P : Pair → Type 0) (ms : List Member) → AllByRecursion (λ (m : Member). P (m.name, m.value)) ms → AllByRecursion P (pairs ms)
+pairs-each : (P : Pair → Type 0) (ms : List Member) → AllByRecursion (λ (m : Member). P (m.name, m.value)) ms
+    → AllByRecursion P (pairs ms)
 pairs-each P [] h = tt
 pairs-each P (m ∷ ms) h = (h.0, pairs-each P ms h.1)
 
-pub binding-ends : (binding : Binding) → IsBinding binding → AllByRecursion (λ (m : Pair). EndsItself m.1) (pairs (binding_members binding))
+pub binding-ends : (binding : Binding) → IsBinding binding
+    → AllByRecursion (λ (m : Pair). EndsItself m.1) (pairs (binding_members binding))
 binding-ends binding is =
     let P : Member → Type 0 = λ m. EndsItself m.value in
     pairs-each (λ m. EndsItself m.1) (binding_members binding)
     (each-with_value P (codes "elementId") (Some (quote binding.target)) binding.rest (inr (binding.target, refl), tt)
-    (AllByRecursion-weaker (λ (m : Member). IsCompact 118 m.value) P binding.rest (λ m v. inl (Value-deeper (omega arith) v)) is.nest))
+    (AllByRecursion-weaker (λ (m : Member). IsCompact 118 m.value) P binding.rest
+    (λ m v. inl (Value-deeper (omega arith) v)) is.nest))
 
 -- the target and the further members of a binding, from all its members
-pub binding-target : (binding : Binding) → IsBinding binding → value_named (codes "elementId") (binding_members binding) ≡ Some (quote binding.target)
+pub binding-target : (binding : Binding) → IsBinding binding → value_named (codes "elementId") (binding_members binding)
+    ≡ Some (quote binding.target)
 binding-target binding is =
-    named-with_value (codes "elementId") (codes "elementId") (Some (quote binding.target)) binding.rest (risen binding.rest is.rise)
+    named-with_value (codes "elementId") (codes "elementId") (Some (quote binding.target)) binding.rest
+    (risen binding.rest is.rise)
 
-pub binding-rest : (binding : Binding) → IsBinding binding → with_value (codes "elementId") None (binding_members binding) ≡ binding.rest
+pub binding-rest : (binding : Binding) → IsBinding binding
+    → with_value (codes "elementId") None (binding_members binding) ≡ binding.rest
 binding-rest binding is = with_value-back (codes "elementId") (quote binding.target) binding.rest is.free
 
 some-same : {X : Type 0} (a b : X) → Some a ≡ Some b → a ≡ b
 some-same a b e = cc
 
-pub binding-same : (a b : Option Binding) → IfSome a IsBinding → IfSome b IsBinding → binding_text a ≡ binding_text b → a ≡ b
+pub binding-same : (a b : Option Binding) → IfSome a IsBinding → IfSome b IsBinding → binding_text a ≡ binding_text b
+    → a ≡ b
 unfolding object_text
 binding-same None None is is' e = refl
 binding-same None (Some b) is is' e = absurd (heads-differ 110 123 _ _ refl e)
 binding-same (Some a) None is is' e = absurd (heads-differ 123 110 _ _ refl e)
 binding-same (Some a) (Some b) is is' e =
-    let all = pairs-same _ _ (object-same _ _ (binding-ends a is) (binding-ends b is') (sym (binding-object a is) ∙ e ∙ binding-object b is')) in
-    let target = quote-same a.target b.target (some-same _ _ (sym (binding-target a is) ∙ ap (value_named (codes "elementId")) all ∙ binding-target b is')) in
+    let all = pairs-same _ _ (object-same _ _ (binding-ends a is) (binding-ends b is') (sym (binding-object a is) ∙ e
+    ∙ binding-object b is')) in
+    let target = quote-same a.target b.target (some-same _ _ (sym (binding-target a is)
+    ∙ ap (value_named (codes "elementId")) all ∙ binding-target b is')) in
     let rest = sym (binding-rest a is) ∙ ap (with_value (codes "elementId") None) all ∙ binding-rest b is' in
     λ i. Some (record { target = target i; rest = rest i })
 
@@ -267,26 +306,35 @@ pub record IsFound (value : List ℕ) (found : List Member) : Type 0 where
   pub text : value ≡ binding_text (Some binding)
   pub members : found ≡ binding_members binding
 
-pub binding-found : (value : List ℕ) (binding : Option Binding) → IfSome binding IsBinding → value ≡ binding_text binding → (value ≡ null_word → ⊥) → (found : List Member) → value ≡ object_text (pairs found) → AllByRecursion (λ (m : Pair). IsCompact 127 m.1) (pairs found) → IsFound value found
+pub binding-found : (value : List ℕ) (binding : Option Binding) → IfSome binding IsBinding
+    → value ≡ binding_text binding → (value ≡ null_word → ⊥) → (found : List Member) → value ≡ object_text (pairs found)
+    → AllByRecursion (λ (m : Pair). IsCompact 127 m.1) (pairs found) → IsFound value found
 binding-found value None is e not-null found spelled compact = absurd (not-null e)
 binding-found value (Some b) is e not-null found spelled compact = record {
   binding = b;
   is_binding = is;
   text = e;
-  members = pairs-same _ _ (object-same _ _ (AllByRecursion-weaker (λ (m : Pair). IsCompact 127 m.1) (λ m. EndsItself m.1) (pairs found) (λ m v. inl v) compact) (binding-ends b is) (sym spelled ∙ e ∙ binding-object b is));
+  members =
+      pairs-same _ _ (object-same _ _ (AllByRecursion-weaker (λ (m : Pair). IsCompact 127 m.1) (λ m. EndsItself m.1)
+      (pairs found) (λ m v. inl v) compact) (binding-ends b is) (sym spelled ∙ e ∙ binding-object b is));
 }
 
 pub binding-rise : {value : List ℕ} {found : List Member} → IsFound value found → are_rising (names found) ≡ true
 binding-rise f =
     ap (λ ms. are_rising (names ms)) f.members
-    ∙ rises (binding_members f.binding) (rising-with_value (codes "elementId") (Some (quote f.binding.target)) f.binding.rest (risen f.binding.rest f.is_binding.rise))
+    ∙ rises (binding_members f.binding) (rising-with_value (codes "elementId") (Some (quote f.binding.target))
+    f.binding.rest (risen f.binding.rest f.is_binding.rise))
 
-pub binding-string : {value : List ℕ} {found : List Member} (f : IsFound value found) → value_named (codes "elementId") found ≡ Some (quote f.binding.target)
+pub binding-string : {value : List ℕ} {found : List Member} (f : IsFound value found)
+    → value_named (codes "elementId") found ≡ Some (quote f.binding.target)
 binding-string f = ap (value_named (codes "elementId")) f.members ∙ binding-target f.binding f.is_binding
 
 -- the binding that is made of them
-pub binding-made : {value : List ℕ} {found : List Member} (f : IsFound value found) (target : List ℕ) (rest : List Member) → value_named (codes "elementId") found ≡ Some (quote target) → rest ≡ with_value (codes "elementId") None found → f.binding ≡ record { target = target; rest = rest }
+pub binding-made : {value : List ℕ} {found : List Member} (f : IsFound value found) (target : List ℕ)
+    (rest : List Member) → value_named (codes "elementId") found ≡ Some (quote target)
+    → rest ≡ with_value (codes "elementId") None found → f.binding ≡ record { target = target; rest = rest }
 binding-made f target rest named is =
     let same = quote-same f.binding.target target (some-same _ _ (sym (binding-string f) ∙ named)) in
-    let others = sym (binding-rest f.binding f.is_binding) ∙ ap (with_value (codes "elementId") None) (sym f.members) ∙ sym is in
+    let others =
+    sym (binding-rest f.binding f.is_binding) ∙ ap (with_value (codes "elementId") None) (sym f.members) ∙ sym is in
     λ i. record { target = same i; rest = others i }

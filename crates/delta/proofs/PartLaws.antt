@@ -50,7 +50,8 @@ all-twice [] = refl
 all-twice (c ∷ cs) = λ i. inverted-twice c i ∷ all-twice cs i
 
 pub inverse-twice : (part : Delta) → inverse (inverse part) ≡ part
-inverse-twice part = ap (λ changes. let whole : Delta = record part { changes = changes } in whole) (all-twice part.changes)
+inverse-twice part =
+    ap (λ changes. let whole : Delta = record part { changes = changes } in whole) (all-twice part.changes)
 
 pub turned : Option Change → Option Change
 turned None = None
@@ -66,7 +67,8 @@ unfolding turned
 change-inverted [] n = refl
 change-inverted (c ∷ cs) n =
     ap (λ m. cond (bytes_eq n m) (Some (inverted c)) (change_of (map inverted cs) n)) (name-kept c)
-    ∙ (elim (bytes_eq n (name_of c)) as (λ b. cond b (Some (inverted c)) (change_of (map inverted cs) n) ≡ turned (cond b (Some c) (change_of cs n))) [
+    ∙ (elim (bytes_eq n (name_of c)) as (λ b. cond b (Some (inverted c)) (change_of (map inverted cs) n)
+    ≡ turned (cond b (Some c) (change_of cs n))) [
       | true ↦ refl
       | false ↦ change-inverted cs n
     ])
@@ -77,7 +79,8 @@ scalars_same-turned None (Some b) = refl
 scalars_same-turned (Some a) None = refl
 scalars_same-turned (Some a) (Some b) = bytes_eq-turned a b
 
-lists_same-turned : {T : Type 0} (same : T → T → Bool) → ((a b : T) → same a b ≡ true → a ≡ b) → ((a : T) → same a a ≡ true) → (a b : List T) → are_same same a b ≡ are_same same b a
+lists_same-turned : {T : Type 0} (same : T → T → Bool) → ((a b : T) → same a b ≡ true → a ≡ b)
+    → ((a : T) → same a a ≡ true) → (a b : List T) → are_same same a b ≡ are_same same b a
 lists_same-turned same exact itself a b =
     elim (cases_Bool (are_same same a b)) [
       | inl t ↦
@@ -91,26 +94,33 @@ lists_same-turned same exact itself a b =
       ]
     ]
 
-pub scalar-turned : (name : List ℕ) (b a : Option (List ℕ)) → turned (scalar_change name b a) ≡ scalar_change name a b
+pub scalar-turned : (name : List ℕ) (b a : Option (List ℕ))
+    → turned (scalar_change name b a) ≡ scalar_change name a b
 unfolding turned
 scalar-turned name b a =
-    (elim (scalars_same b a) as (λ same. turned (if same then None else Some (Scalar name b a)) ≡ (if same then None else Some (Scalar name a b))) [ true ↦ refl | false ↦ refl ])
+    (elim (scalars_same b a) as (λ same. turned (if same then None else Some (Scalar name b a))
+    ≡ (if same then None else Some (Scalar name a b))) [ true ↦ refl | false ↦ refl ])
     ∙ ap (λ same. if same then None else Some (Scalar name a b)) (scalars_same-turned b a)
 
 pub groups-turned : (b a : List (List ℕ)) → turned (groups_change b a) ≡ groups_change a b
 unfolding turned
 groups-turned b a =
-    (elim (are_same bytes_eq b a) as (λ same. turned (if same then None else Some (Groups b a)) ≡ (if same then None else Some (Groups a b))) [ true ↦ refl | false ↦ refl ])
-    ∙ ap (λ same. if same then None else Some (Groups a b)) (lists_same-turned bytes_eq bytes_eq-true bytes_eq-same b a)
+    (elim (are_same bytes_eq b a) as (λ same. turned (if same then None else Some (Groups b a))
+    ≡ (if same then None else Some (Groups a b))) [ true ↦ refl | false ↦ refl ])
+    ∙ ap (λ same. if same then None else Some (Groups a b))
+    (lists_same-turned bytes_eq bytes_eq-true bytes_eq-same b a)
 
 pub bound-turned : (b a : List BoundRef) → turned (bound_change b a) ≡ bound_change a b
 unfolding turned
 bound-turned b a =
-    (elim (are_same same_listing_entry b a) as (λ same. turned (if same then None else Some (Bound b a)) ≡ (if same then None else Some (Bound a b))) [ true ↦ refl | false ↦ refl ])
-    ∙ ap (λ same. if same then None else Some (Bound a b)) (lists_same-turned same_listing_entry same_listing_entry-exact same_listing_entry-same b a)
+    (elim (are_same same_listing_entry b a) as (λ same. turned (if same then None else Some (Bound b a))
+    ≡ (if same then None else Some (Bound a b))) [ true ↦ refl | false ↦ refl ])
+    ∙ ap (λ same. if same then None else Some (Bound a b))
+    (lists_same-turned same_listing_entry same_listing_entry-exact same_listing_entry-same b a)
 
 -- a part of two elements is one alone
-pub part-once : (p q : Delta) (before after : ElementValue) → PartStandsFor p before after → PartStandsFor q before after → p ≡ q
+pub part-once : (p q : Delta) (before after : ElementValue) → PartStandsFor p before after
+    → PartStandsFor q before after → p ≡ q
 part-once p q before after first second =
     let id = first.id ∙ sym second.id in
     let kind = first.kind ∙ sym second.kind in
@@ -136,31 +146,43 @@ part-once p q before after first second =
 some-same : {X : Type 0} (a b : X) → Some a ≡ Some b → a ≡ b
 some-same a b e = cc
 
-own-is : (kind : Kind) (n : List ℕ) (h : Header) → own_header kind n ≡ Some h → list_any (bytes_eq n) (own_names kind) ≡ true
+own-is : (kind : Kind) (n : List ℕ) (h : Header) → own_header kind n ≡ Some h
+    → list_any (bytes_eq n) (own_names kind) ≡ true
 own-is Text n h e = ap (λ m. list_any (bytes_eq m) (own_names Text)) (own-named Text n h e) ∙ here h e
   where
     here : (h : Header) → own_header Text n ≡ Some h → list_any (bytes_eq (header_name h)) (own_names Text) ≡ true
-    here h e = elim (bytes_eq n (codes "containerId")) as (λ b. (if b then Some headers.Container else None) ≡ Some h → list_any (bytes_eq (header_name h)) (own_names Text) ≡ true) [
-      | true ↦ λ e. ap (λ k. list_any (bytes_eq (header_name k)) (own_names Text)) (sym (some-same headers.Container h e))
-      | false ↦ λ e. absurd (cc)
-    ] e
+    here h e = elim (bytes_eq n (codes "containerId")) as (λ b. (if b then Some headers.Container else None) ≡ Some h
+        → list_any (bytes_eq (header_name h)) (own_names Text) ≡ true) [
+          | true ↦ λ e. ap (λ k. list_any (bytes_eq (header_name k)) (own_names Text))
+              (sym (some-same headers.Container h e))
+          | false ↦ λ e. absurd (cc)
+        ] e
 own-is Image n h e = ap (λ m. list_any (bytes_eq m) (own_names Image)) (own-named Image n h e) ∙ here h e
   where
     here : (h : Header) → own_header Image n ≡ Some h → list_any (bytes_eq (header_name h)) (own_names Image) ≡ true
-    here h e = elim (bytes_eq n (codes "fileId")) as (λ b. (if b then Some headers.File else None) ≡ Some h → list_any (bytes_eq (header_name h)) (own_names Image) ≡ true) [
-      | true ↦ λ e. ap (λ k. list_any (bytes_eq (header_name k)) (own_names Image)) (sym (some-same headers.File h e))
-      | false ↦ λ e. absurd (cc)
-    ] e
+    here h e = elim (bytes_eq n (codes "fileId")) as (λ b. (if b then Some headers.File else None) ≡ Some h
+        → list_any (bytes_eq (header_name h)) (own_names Image) ≡ true) [
+          | true ↦ λ e. ap (λ k. list_any (bytes_eq (header_name k)) (own_names Image))
+              (sym (some-same headers.File h e))
+          | false ↦ λ e. absurd (cc)
+        ] e
 own-is Arrow n h e = ap (λ m. list_any (bytes_eq m) (own_names Arrow)) (own-named Arrow n h e) ∙ here h e
   where
     here : (h : Header) → own_header Arrow n ≡ Some h → list_any (bytes_eq (header_name h)) (own_names Arrow) ≡ true
-    here h e = elim (bytes_eq n (codes "startBinding")) as (λ b. (if b then Some headers.StartBinding else (if bytes_eq n (codes "endBinding") then Some headers.EndBinding else None)) ≡ Some h → list_any (bytes_eq (header_name h)) (own_names Arrow) ≡ true) [
-      | true ↦ λ e. ap (λ k. list_any (bytes_eq (header_name k)) (own_names Arrow)) (sym (some-same headers.StartBinding h e))
-      | false ↦ elim (bytes_eq n (codes "endBinding")) as (λ b. (if b then Some headers.EndBinding else None) ≡ Some h → list_any (bytes_eq (header_name h)) (own_names Arrow) ≡ true) [
-        | true ↦ λ e. ap (λ k. list_any (bytes_eq (header_name k)) (own_names Arrow)) (sym (some-same headers.EndBinding h e))
-        | false ↦ λ e. absurd (cc)
-      ]
-    ] e
+    here h e = elim (bytes_eq n (codes "startBinding")) as
+        (λ b. (if b then Some headers.StartBinding
+        else (if bytes_eq n (codes "endBinding") then Some headers.EndBinding
+        else None)) ≡ Some h → list_any (bytes_eq (header_name h)) (own_names Arrow) ≡ true) [
+          | true ↦ λ e. ap (λ k. list_any (bytes_eq (header_name k)) (own_names Arrow))
+              (sym (some-same headers.StartBinding h e))
+          | false ↦ elim (bytes_eq n (codes "endBinding")) as (λ b. (if b then Some headers.EndBinding else None)
+              ≡ Some h
+              → list_any (bytes_eq (header_name h)) (own_names Arrow) ≡ true) [
+                | true ↦ λ e. ap (λ k. list_any (bytes_eq (header_name k)) (own_names Arrow))
+                    (sym (some-same headers.EndBinding h e))
+                | false ↦ λ e. absurd (cc)
+              ]
+        ] e
 own-is Rectangle n h e = absurd (cc)
 own-is Diamond n h e = absurd (cc)
 own-is Ellipse n h e = absurd (cc)
@@ -184,19 +206,23 @@ header-is kind n h e =
         | inl t ↦ ap (is_header kind) (bytes_eq-true n (codes "index") t)
         | inr g ↦ elim (cases_Bool (bytes_eq n (codes "frameId"))) [
           | inl t ↦ ap (is_header kind) (bytes_eq-true n (codes "frameId") t)
-          | inr k ↦ ap (λ b. list_any (bytes_eq n) header_names || b) (own-is kind n h (rw (f, g, k) at e)) ∙ or_true (list_any (bytes_eq n) header_names)
+          | inr k ↦ ap (λ b. list_any (bytes_eq n) header_names || b) (own-is kind n h (rw (f, g, k) at e))
+              ∙ or_true (list_any (bytes_eq n) header_names)
         ]
       ]
     ]
 
 -- a header name is no name of a further member
-none-header : (kind : Kind) (n : List ℕ) (ms : List Member) → is_header kind n ≡ true → list_any (is_header kind) (names ms) ≡ false → value_named n ms ≡ None
+none-header : (kind : Kind) (n : List ℕ) (ms : List Member) → is_header kind n ≡ true
+    → list_any (is_header kind) (names ms) ≡ false → value_named n ms ≡ None
 none-header kind n ms is free =
     not-named n ms (list_any-each (bytes_eq n) ms (all ms (each-list_any (is_header kind) ms free)))
   where
-    all : (ms : List Member) → AllByRecursion (λ (m : Member). is_header kind m.name ≡ false) ms → AllByRecursion (λ (m : Member). bytes_eq n m.name ≡ false) ms
+    all : (ms : List Member) → AllByRecursion (λ (m : Member). is_header kind m.name ≡ false) ms
+        → AllByRecursion (λ (m : Member). bytes_eq n m.name ≡ false) ms
     all [] h = tt
-    all (m ∷ ms) h = (bytes_eq-apart n m.name (λ e. false≢true (sym h.0 ∙ ap (is_header kind) (sym e) ∙ is)), all ms h.1)
+    all (m ∷ ms) h =
+        (bytes_eq-apart n m.name (λ e. false≢true (sym h.0 ∙ ap (is_header kind) (sym e) ∙ is)), all ms h.1)
 
 header-apart : (n : List ℕ) (h : Header) → is_list n ≡ true → n ≡ header_name h → ⊥
 header-apart n headers.Deleted l e = false≢true (sym (ap is_list e) ∙ l)
@@ -210,7 +236,8 @@ header-apart n headers.File l e = false≢true (sym (ap is_list e) ∙ l)
 list-header : (kind : Kind) (n : List ℕ) → is_list n ≡ true → is_header kind n ≡ true
 list-header kind n l = elim (cases_Bool (bytes_eq n (codes "groupIds"))) [
   | inl t ↦ ap (is_header kind) (bytes_eq-true n (codes "groupIds") t)
-  | inr f ↦ ap (is_header kind) (bytes_eq-true n (codes "boundElements") (sym (ap (λ b. b || bytes_eq n (codes "boundElements")) f) ∙ l))
+  | inr f ↦ ap (is_header kind) (bytes_eq-true n (codes "boundElements")
+      (sym (ap (λ b. b || bytes_eq n (codes "boundElements")) f) ∙ l))
 ]
 
 -- a list is no scalar
@@ -221,40 +248,59 @@ list-scalar e n is l = at (header_named e.kind n) refl
     at None h = none-header e.kind n e.rest (list-header e.kind n l) is.free
     at (Some k) h = absurd (header-apart n k l (named e.kind n k h))
 
-module _ (a b : ElementValue) (is : IsElement a) (is' : IsElement b) (kind : a.kind ≡ b.kind) (scalars : (n : List ℕ) → scalar_of a n ≡ scalar_of b n) where
-  at-kind : (k : Kind) (n : List ℕ) (h : Header) → a.kind ≡ k → header_named k n ≡ Some h → scalar_text a h ≡ scalar_text b h
+module _ (a b : ElementValue) (is : IsElement a) (is' : IsElement b) (kind : a.kind ≡ b.kind) (scalars : (n : List ℕ)
+    → scalar_of a n ≡ scalar_of b n) where
+  at-kind : (k : Kind) (n : List ℕ) (h : Header) → a.kind ≡ k → header_named k n ≡ Some h
+      → scalar_text a h ≡ scalar_text b h
   at-kind k n h e own =
-      some-same _ _ (sym (ap (scalar_at a n) (ap (λ k. header_named k n) e ∙ own)) ∙ scalars n ∙ ap (scalar_at b n) (ap (λ k. header_named k n) (sym kind ∙ e) ∙ own))
+      some-same _ _ (sym (ap (scalar_at a n) (ap (λ k. header_named k n) e ∙ own)) ∙ scalars n
+      ∙ ap (scalar_at b n) (ap (λ k. header_named k n) (sym kind ∙ e) ∙ own))
 
-  texts-same : (k : Kind) (n : List ℕ) (h : Header) (x y : Option (List ℕ)) → header_named k n ≡ Some h → IfSome x (λ id. a.kind ≡ k) → IfSome y (λ id. b.kind ≡ k) → (scalar_text a h ≡ scalar_text b h → text_or_null x ≡ text_or_null y) → x ≡ y
+  texts-same : (k : Kind) (n : List ℕ) (h : Header) (x y : Option (List ℕ)) → header_named k n ≡ Some h
+      → IfSome x (λ id. a.kind ≡ k) → IfSome y (λ id. b.kind ≡ k)
+      → (scalar_text a h ≡ scalar_text b h → text_or_null x ≡ text_or_null y) → x ≡ y
   texts-same k n h None None own p q f = refl
   texts-same k n h (Some x) y own p q f = text-same (Some x) y (f (at-kind k n h p own))
   texts-same k n h None (Some y) own p q f = text-same None (Some y) (f (at-kind k n h (kind ∙ q) own))
 
-  bindings-same : (n : List ℕ) (h : Header) (x y : Option Binding) → header_named Arrow n ≡ Some h → IfSome x (λ binding. (a.kind ≡ Arrow) × IsBinding binding) → IfSome y (λ binding. (b.kind ≡ Arrow) × IsBinding binding) → (scalar_text a h ≡ scalar_text b h → binding_text x ≡ binding_text y) → x ≡ y
+  bindings-same : (n : List ℕ) (h : Header) (x y : Option Binding) → header_named Arrow n ≡ Some h
+      → IfSome x (λ binding. (a.kind ≡ Arrow) × IsBinding binding)
+      → IfSome y (λ binding. (b.kind ≡ Arrow) × IsBinding binding)
+      → (scalar_text a h ≡ scalar_text b h → binding_text x ≡ binding_text y) → x ≡ y
   bindings-same n h None None own p q f = refl
   bindings-same n h (Some x) None own p q f = binding-same (Some x) None p.1 tt (f (at-kind Arrow n h p.0 own))
-  bindings-same n h (Some x) (Some y) own p q f = binding-same (Some x) (Some y) p.1 q.1 (f (at-kind Arrow n h p.0 own))
-  bindings-same n h None (Some y) own p q f = binding-same None (Some y) tt q.1 (f (at-kind Arrow n h (kind ∙ q.0) own))
+  bindings-same n h (Some x) (Some y) own p q f =
+      binding-same (Some x) (Some y) p.1 q.1 (f (at-kind Arrow n h p.0 own))
+  bindings-same n h None (Some y) own p q f =
+      binding-same None (Some y) tt q.1 (f (at-kind Arrow n h (kind ∙ q.0) own))
 
   rests-same : a.rest ≡ b.rest
-  rests-same = same_values a.rest b.rest (risen a.rest is.rise) (risen b.rest is'.rise) (λ n. each n (header_named a.kind n) refl)
+  rests-same = same_values a.rest b.rest (risen a.rest is.rise) (risen b.rest is'.rise)
+      (λ n. each n (header_named a.kind n) refl)
     where
-      each : (n : List ℕ) (o : Option Header) → header_named a.kind n ≡ o → value_named n a.rest ≡ value_named n b.rest
-      each n None h = sym (ap (scalar_at a n) h) ∙ scalars n ∙ ap (scalar_at b n) (ap (λ k. header_named k n) (sym kind) ∙ h)
+      each : (n : List ℕ) (o : Option Header) → header_named a.kind n ≡ o
+          → value_named n a.rest ≡ value_named n b.rest
+      each n None h =
+          sym (ap (scalar_at a n) h) ∙ scalars n ∙ ap (scalar_at b n) (ap (λ k. header_named k n) (sym kind) ∙ h)
       each n (Some k) h =
           let header = header-is a.kind n k h in
-          none-header a.kind n a.rest header is.free ∙ sym (none-header b.kind n b.rest (ap (λ k. is_header k n) (sym kind) ∙ header) is'.free)
+          none-header a.kind n a.rest header is.free
+          ∙ sym (none-header b.kind n b.rest (ap (λ k. is_header k n) (sym kind) ∙ header) is'.free)
 
   pub same-unstamped : a.id ≡ b.id → a.groups ≡ b.groups → a.bound ≡ b.bound → unstamped a ≡ unstamped b
   same-unstamped id groups bound =
       let deleted = truth-same a.deleted b.deleted (at-kind a.kind (codes "isDeleted") headers.Deleted refl refl) in
       let index = text-same a.index b.index (at-kind a.kind (codes "index") headers.Index refl refl) in
       let frame = text-same a.frame b.frame (at-kind a.kind (codes "frameId") headers.Frame refl refl) in
-      let container = texts-same Text (codes "containerId") headers.Container a.container b.container refl is.container is'.container (λ e. e) in
+      let container =
+      texts-same Text (codes "containerId") headers.Container a.container b.container refl is.container
+      is'.container (λ e. e) in
       let file = texts-same Image (codes "fileId") headers.File a.file b.file refl is.file is'.file (λ e. e) in
-      let start = bindings-same (codes "startBinding") headers.StartBinding a.start_binding b.start_binding refl is.start_binding is'.start_binding (λ e. e) in
-      let finish = bindings-same (codes "endBinding") headers.EndBinding a.end_binding b.end_binding refl is.end_binding is'.end_binding (λ e. e) in
+      let start = bindings-same (codes "startBinding") headers.StartBinding a.start_binding b.start_binding refl
+      is.start_binding is'.start_binding (λ e. e) in
+      let finish =
+      bindings-same (codes "endBinding") headers.EndBinding a.end_binding b.end_binding refl is.end_binding
+      is'.end_binding (λ e. e) in
       λ i. record {
         id = id i;
         kind = kind i;
@@ -290,17 +336,26 @@ scalar-forward n b a = elim (cases_Bool (scalars_same b a)) [
   | inr f ↦ ap (λ same. scalar_after (if same then None else Some (Scalar n b a)) b) f
 ]
 
-scalar-undone : (n : List ℕ) (b a now : Option (List ℕ)) → scalar_after (turned (scalar_change n b a)) now ≡ undone_scalar b a now
+scalar-undone : (n : List ℕ) (b a now : Option (List ℕ)) → scalar_after (turned (scalar_change n b a)) now
+    ≡ undone_scalar b a now
 unfolding turned
-scalar-undone n b a now = elim (scalars_same b a) as (λ same. scalar_after (turned (if same then None else Some (Scalar n b a))) now ≡ (if same then now else b)) [ true ↦ refl | false ↦ refl ]
+scalar-undone n b a now = elim (scalars_same b a) as
+    (λ same. scalar_after (turned (if same then None else Some (Scalar n b a))) now ≡ (if same then now else b))
+    [ true ↦ refl | false ↦ refl ]
 
-groups-undone : (b a now : List (List ℕ)) → groups_after (turned (groups_change b a)) now ≡ undone_list bytes_eq b a now
+groups-undone : (b a now : List (List ℕ)) → groups_after (turned (groups_change b a)) now
+    ≡ undone_list bytes_eq b a now
 unfolding turned
-groups-undone b a now = elim (are_same bytes_eq b a) as (λ same. groups_after (turned (if same then None else Some (Groups b a))) now ≡ (if same then now else joined bytes_eq a b now)) [ true ↦ refl | false ↦ refl ]
+groups-undone b a now = elim (are_same bytes_eq b a) as
+    (λ same. groups_after (turned (if same then None else Some (Groups b a))) now
+    ≡ (if same then now else joined bytes_eq a b now)) [ true ↦ refl | false ↦ refl ]
 
-bound-undone : (b a now : List BoundRef) → bound_after (turned (bound_change b a)) now ≡ undone_list same_listing_entry b a now
+bound-undone : (b a now : List BoundRef) → bound_after (turned (bound_change b a)) now
+    ≡ undone_list same_listing_entry b a now
 unfolding turned
-bound-undone b a now = elim (are_same same_listing_entry b a) as (λ same. bound_after (turned (if same then None else Some (Bound b a))) now ≡ (if same then now else joined same_listing_entry a b now)) [ true ↦ refl | false ↦ refl ]
+bound-undone b a now = elim (are_same same_listing_entry b a) as
+    (λ same. bound_after (turned (if same then None else Some (Bound b a))) now
+    ≡ (if same then now else joined same_listing_entry a b now)) [ true ↦ refl | false ↦ refl ]
 
 undone_scalar-now : (b a : Option (List ℕ)) → undone_scalar b a a ≡ b
 undone_scalar-now b a = elim (cases_Bool (scalars_same b a)) [
@@ -308,9 +363,11 @@ undone_scalar-now b a = elim (cases_Bool (scalars_same b a)) [
   | inr f ↦ ap (λ same. if same then a else b) f
 ]
 
-module _ {T : Type 0} (same : T → T → Bool) (exact : (a b : T) → same a b ≡ true → a ≡ b) (itself : (a : T) → same a a ≡ true) where
+module _ {T : Type 0} (same : T → T → Bool) (exact : (a b : T) → same a b ≡ true → a ≡ b) (itself : (a : T)
+    → same a a ≡ true) where
   joined-now : (b a : List T) → joined same b a b ≡ a
-  joined-now b a = ap (λ t. if t then a else filter (stays same b a) b ++ first_occurrences same (filter (is_gained same b b) a)) (are_same-same same itself b)
+  joined-now b a = ap (λ t. if t then a else filter (stays same b a) b
+      ++ first_occurrences same (filter (is_gained same b b) a)) (are_same-same same itself b)
 
   list-forward : (b a : List T) → (if are_same same b a then b else joined same b a b) ≡ a
   list-forward b a = elim (cases_Bool (are_same same b a)) [
@@ -326,17 +383,22 @@ module _ {T : Type 0} (same : T → T → Bool) (exact : (a b : T) → same a b 
 
 groups-forward : (b a : List (List ℕ)) → groups_after (groups_change b a) b ≡ a
 groups-forward b a =
-    (elim (are_same bytes_eq b a) as (λ s. groups_after (if s then None else Some (Groups b a)) b ≡ (if s then b else joined bytes_eq b a b)) [ true ↦ refl | false ↦ refl ])
+    (elim (are_same bytes_eq b a) as (λ s. groups_after (if s then None else Some (Groups b a)) b
+    ≡ (if s then b else joined bytes_eq b a b)) [ true ↦ refl | false ↦ refl ])
     ∙ list-forward bytes_eq bytes_eq-true bytes_eq-same b a
 
 bound-forward : (b a : List BoundRef) → bound_after (bound_change b a) b ≡ a
 bound-forward b a =
-    (elim (are_same same_listing_entry b a) as (λ s. bound_after (if s then None else Some (Bound b a)) b ≡ (if s then b else joined same_listing_entry b a b)) [ true ↦ refl | false ↦ refl ])
+    (elim (are_same same_listing_entry b a) as (λ s. bound_after (if s then None else Some (Bound b a)) b
+    ≡ (if s then b else joined same_listing_entry b a b)) [ true ↦ refl | false ↦ refl ])
     ∙ list-forward same_listing_entry same_listing_entry-exact same_listing_entry-same b a
 
 -- ---- the laws
-module _ (part : Delta) (before after : ElementValue) (is : IsElement before) (is' : IsElement after) (stands : PartStandsFor part before after) where
-  pub undone-from : (now result : ElementValue) → IsElement now → IsElement result → IsApplied (inverse part) now result → IsUndone before after now result
+module _ (part : Delta) (before after : ElementValue) (is : IsElement before) (is' : IsElement after)
+    (stands : PartStandsFor part before after) where
+  pub undone-from : (now result : ElementValue) → IsElement now → IsElement result
+      → IsApplied (inverse part) now result
+      → IsUndone before after now result
   undone-from now result isnow isresult applied = record {
     undone = λ kind.
         let changed = applied.changed (stands.kind ∙ kind) in
@@ -345,45 +407,60 @@ module _ (part : Delta) (before after : ElementValue) (is : IsElement before) (i
           scalars = λ n. elim (cases_Bool (is_list n)) [
             | inl t ↦
                 list-scalar result n isresult t
-                ∙ sym (ap (λ o. undone_scalar o (scalar_of after n) (scalar_of now n)) (list-scalar before n is t) ∙ ap (λ o. undone_scalar None o (scalar_of now n)) (list-scalar after n is' t) ∙ list-scalar now n isnow t)
+                ∙ sym (ap (λ o. undone_scalar o (scalar_of after n) (scalar_of now n)) (list-scalar before n is t)
+                ∙ ap (λ o. undone_scalar None o (scalar_of now n)) (list-scalar after n is' t)
+                ∙ list-scalar now n isnow t)
             | inr f ↦
-                changed.scalars n ∙ ap (λ o. scalar_after o (scalar_of now n)) (change-inverted part.changes n ∙ ap turned (stands.scalars n f))
+                changed.scalars n ∙ ap (λ o. scalar_after o (scalar_of now n)) (change-inverted part.changes n
+                ∙ ap turned (stands.scalars n f))
                 ∙ scalar-undone n (scalar_of before n) (scalar_of after n) (scalar_of now n)
           ];
-          groups = changed.groups ∙ ap (λ o. groups_after o now.groups) (change-inverted part.changes (codes "groupIds") ∙ ap turned stands.groups) ∙ groups-undone before.groups after.groups now.groups;
-          bound = changed.bound ∙ ap (λ o. bound_after o now.bound) (change-inverted part.changes (codes "boundElements") ∙ ap turned stands.bound) ∙ bound-undone before.bound after.bound now.bound;
+          groups =
+              changed.groups ∙ ap (λ o. groups_after o now.groups) (change-inverted part.changes (codes "groupIds")
+              ∙ ap turned stands.groups) ∙ groups-undone before.groups after.groups now.groups;
+          bound = changed.bound ∙ ap (λ o. bound_after o now.bound)
+              (change-inverted part.changes (codes "boundElements") ∙ ap turned stands.bound)
+              ∙ bound-undone before.bound after.bound now.bound;
         };
     other = λ kind. applied.other (λ e. kind (sym stands.kind ∙ e));
   }
 
-  pub applied-forward : (result : ElementValue) → IsElement result → before.id ≡ after.id → before.kind ≡ after.kind → IsApplied part before result → unstamped result ≡ unstamped after
+  pub applied-forward : (result : ElementValue) → IsElement result → before.id ≡ after.id → before.kind ≡ after.kind
+      → IsApplied part before result → unstamped result ≡ unstamped after
   applied-forward result isresult id kind applied =
       let changed = applied.changed (stands.kind ∙ sym kind) in
       same-unstamped result after isresult is' (changed.stamp.kind ∙ kind)
       (λ n. elim (cases_Bool (is_list n)) [
         | inl t ↦ list-scalar result n isresult t ∙ sym (list-scalar after n is' t)
-        | inr f ↦ changed.scalars n ∙ ap (λ o. scalar_after o (scalar_of before n)) (stands.scalars n f) ∙ scalar-forward n (scalar_of before n) (scalar_of after n)
+        | inr f ↦ changed.scalars n ∙ ap (λ o. scalar_after o (scalar_of before n)) (stands.scalars n f)
+            ∙ scalar-forward n (scalar_of before n) (scalar_of after n)
       ])
       (changed.stamp.id ∙ id)
-      (changed.groups ∙ ap (λ o. groups_after o before.groups) stands.groups ∙ groups-forward before.groups after.groups)
+      (changed.groups ∙ ap (λ o. groups_after o before.groups) stands.groups
+      ∙ groups-forward before.groups after.groups)
       (changed.bound ∙ ap (λ o. bound_after o before.bound) stands.bound ∙ bound-forward before.bound after.bound)
 
-  pub applied-back : (result : ElementValue) → IsElement result → before.id ≡ after.id → before.kind ≡ after.kind → IsApplied (inverse part) after result → unstamped result ≡ unstamped before
+  pub applied-back : (result : ElementValue) → IsElement result → before.id ≡ after.id → before.kind ≡ after.kind
+      → IsApplied (inverse part) after result → unstamped result ≡ unstamped before
   applied-back result isresult id kind applied =
       let undoes = (undone-from after result is' isresult applied).undone refl in
       same-unstamped result before isresult is (undoes.stamp.kind ∙ sym kind)
       (λ n. undoes.scalars n ∙ undone_scalar-now (scalar_of before n) (scalar_of after n))
       (undoes.stamp.id ∙ sym id)
       (undoes.groups ∙ undone_list-now bytes_eq bytes_eq-true bytes_eq-same before.groups after.groups)
-      (undoes.bound ∙ undone_list-now same_listing_entry same_listing_entry-exact same_listing_entry-same before.bound after.bound)
+      (undoes.bound ∙ undone_list-now same_listing_entry same_listing_entry-exact same_listing_entry-same
+      before.bound
+      after.bound)
 
 -- a part makes one element of another one
-module _ (part : Delta) (now a b : ElementValue) (is : IsElement a) (is' : IsElement b) (p : IsApplied part now a) (q : IsApplied part now b) where
+module _ (part : Delta) (now a b : ElementValue) (is : IsElement a) (is' : IsElement b) (p : IsApplied part now a)
+    (q : IsApplied part now b) where
   pub applied-once : part.kind ≡ now.kind → unstamped a ≡ unstamped b
   applied-once kind =
       let made = p.changed kind in
       let other = q.changed kind in
-      same-unstamped a b is is' (made.stamp.kind ∙ sym other.stamp.kind) (λ n. made.scalars n ∙ sym (other.scalars n))
+      same-unstamped a b is is' (made.stamp.kind ∙ sym other.stamp.kind) (λ n. made.scalars n
+      ∙ sym (other.scalars n))
       (made.stamp.id ∙ sym other.stamp.id) (made.groups ∙ sym other.groups) (made.bound ∙ sym other.bound)
 
   -- whether the kinds are the same need not be known for this

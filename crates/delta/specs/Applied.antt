@@ -41,7 +41,8 @@ pub record KeepsStamp (now result : ElementValue) : Type 0 where
 -- Each member after the changes is as its change makes it, and those without a change stay.
 pub record Changes (changes : List Change) (now result : ElementValue) : Type 0 where
   pub stamp : KeepsStamp now result
-  pub scalars : (name : List ℕ) → scalar_of result name ≡ scalar_after (change_of changes name) (scalar_of now name)
+  pub scalars : (name : List ℕ) → scalar_of result name
+      ≡ scalar_after (change_of changes name) (scalar_of now name)
   pub groups : result.groups ≡ groups_after (change_of changes (codes "groupIds")) now.groups
   pub bound : result.bound ≡ bound_after (change_of changes (codes "boundElements")) now.bound
 

@@ -18,7 +18,8 @@ use Rattle.delta.specs.Headers.{header_named}
 -- the names of members that are no scalars: what an element is, its stamp and its two lists
 abbrev pub other_names : List (List ℕ)
 other_names =
-    codes "id" ∷ codes "type" ∷ codes "groupIds" ∷ codes "boundElements" ∷ codes "version" ∷ codes "versionNonce"
+    codes "id" ∷ codes "type" ∷ codes "groupIds" ∷ codes "boundElements" ∷ codes "version"
+    ∷ codes "versionNonce"
     ∷ codes "updated" ∷ []
 
 -- the name of the member that a change is of
@@ -27,8 +28,8 @@ name_of (Scalar name before after) = name
 name_of (Groups before after) = codes "groupIds"
 name_of (Bound before after) = codes "boundElements"
 
--- A header member has a value of a form that is accepted: a truth; null or a key; null or a text; null or a binding,
--- its members in the order of their names.
+-- A header member has a value of a form that is accepted: a truth; null or a key; null or a text;
+-- null or a binding, its members in the order of their names.
 abbrev pub IsAccepted : Header → List ℕ → Type 0
 IsAccepted headers.Deleted value = (truth : Bool) × (value ≡ truth_text truth)
 IsAccepted headers.Index value = (key : Option (List ℕ)) × IfSome key (λ k. IsTrue (is_key k))
@@ -41,7 +42,8 @@ IsAccepted headers.EndBinding value = (binding : Option Binding) × IfSome bindi
     × (value ≡ binding_text binding)
 IsAccepted headers.File value = (id : Option (List ℕ)) × (value ≡ text_or_null id)
 
--- A scalar may have this value, or none: a header member has one of a form that is accepted; each nests at most 119.
+-- A scalar may have this value, or none: a header member has one of a form that is accepted; each
+-- nests at most 119.
 abbrev pub IsScalar : Option Header → Option (List ℕ) → Type 0
 IsScalar (Some header) value = IsSomeAnd value (λ v. IsAccepted header v × IsCompact 119 v)
 IsScalar None value = IfSome value (IsCompact 119)
@@ -57,7 +59,8 @@ IsChange kind (Bound before after) = Unit {0}
 abbrev pub change_names : List Change → List (List ℕ)
 change_names changes = map name_of changes
 
--- The changes stand in the order of their members' names, no member is changed twice, and each change is one.
+-- The changes stand in the order of their members' names, no member is changed twice, and each
+-- change is one.
 pub record IsPart (part : Delta) : Type 0 where
   pub rise : are_rising (change_names part.changes) ≡ true
   pub each : AllByRecursion (IsChange part.kind) part.changes

@@ -1,4 +1,5 @@
--- The scalar members of an element: all outside the stamp but its id, its type and its two lists. This project's own.
+-- The scalar members of an element: all outside the stamp but its id, its type and its two lists.
+-- This project's own.
 use Rattle.std.specs.Prelude.{ℕ, List, Option, Some, None, codes, bytes_eq, if◌then◌else◌}
 use Rattle.json_text.specs.Members.{pairs}
 use Rattle.json_text.specs.declared.text.Member.{Member}

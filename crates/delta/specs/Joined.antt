@@ -5,7 +5,8 @@ use Rattle.json_text.specs.FirstOccurrences.{first_occurrences}
 
 -- whether two lists are the same: as long, and the same item by item
 abbrev pub are_same : {T : Type 0} → (T → T → Bool) → List T → List T → Bool
-are_same {T} same xs ys = length xs == length ys && list_all (λ (p : T × T). same p.0 p.1) (zip xs ys)
+are_same {T} same xs ys =
+    length xs == length ys && list_all (λ (p : T × T). same p.0 p.1) (zip xs ys)
 
 -- whether an item is in a list
 abbrev pub is_in : {T : Type 0} → (T → T → Bool) → List T → T → Bool
@@ -19,10 +20,12 @@ stays same before after item = not (is_in same before item) || is_in same after 
 abbrev pub is_gained : {T : Type 0} → (T → T → Bool) → List T → List T → T → Bool
 is_gained same before now item = not (is_in same before item) && not (is_in same now item)
 
--- A list to which a change from `before` to `after` is applied: one that equals `before` becomes `after`. Another one
--- loses the items of `before` that aren't in `after`, and gains at its end those of `after` that are neither in
+-- A list to which a change from `before` to `after` is applied: one that equals `before` becomes
+-- `after`. Another one loses the items of `before` that aren't in `after`, and gains at its end
+-- those of `after` that are neither in
 -- `before` nor in it, each once, in the order of their first occurrences.
 abbrev pub joined : {T : Type 0} → (T → T → Bool) → List T → List T → List T → List T
 joined same before after now =
     if are_same same now before then after
-    else filter (stays same before after) now ++ first_occurrences same (filter (is_gained same before now) after)
+    else filter (stays same before after) now
+    ++ first_occurrences same (filter (is_gained same before now) after)

@@ -1,4 +1,5 @@
--- Entries, and the elements before and after that they stand for. This project's own, after Excalidraw's history.
+-- Entries, and the elements before and after that they stand for. This project's own, after
+-- Excalidraw's history.
 use Rattle.std.specs.Prelude.{◌≡◌, ◌≢◌, ◌⊎◌, ℕ, List, Option, Contains, map}
 use Rattle.elem.specs.ElementValue.{ElementValue}
 use Rattle.elem.specs.Order.{unstamped}
@@ -11,7 +12,8 @@ pub record Pair : Type 0 where
   pub before : ElementValue
   pub after : ElementValue
 
--- an element with the one before, if there was one; where there was none, it counts as the element, deleted
+-- an element with the one before, if there was one; where there was none, it counts as the element,
+-- deleted
 abbrev pub pair_with : Option ElementValue → ElementValue → Pair
 pair_with before e = record { before = counted before e; after = e }
 
@@ -34,10 +36,12 @@ pub record IsPartOf (part : Delta) (pair : Pair) : Type 0 where
   pub changed : IsChanged pair
   pub stands : PartStandsFor part pair.before pair.after
 
--- An entry stands for pairs: it has the part of each pair that is changed, and no other one, in the order of their ids.
+-- An entry stands for pairs: it has the part of each pair that is changed, and no other one, in the
+-- order of their ids.
 pub record EntryStandsFor (parts : List Delta) (pairs : List Pair) : Type 0 where
   pub ordered : AreParts parts
-  pub each_part : (part : Delta) → Contains parts part → (pair : Pair) × Contains pairs pair × IsPartOf part pair
+  pub each_part : (part : Delta) → Contains parts part → (pair : Pair) × Contains pairs pair
+      × IsPartOf part pair
   pub each_pair : (pair : Pair) → Contains pairs pair
       → IsUnchanged pair ⊎ ((part : Delta) × Contains parts part × IsPartOf part pair)
 

@@ -15,9 +15,11 @@ made name (Some value) = record { name = name; value = value } ∷ []
 -- without the first member, where it has this name
 abbrev pub without_first : List ℕ → List Member → List Member
 without_first name [] = []
-without_first name (member ∷ members) = if bytes_eq name member.name then members else member ∷ members
+without_first name (member ∷ members) =
+    if bytes_eq name member.name then members else member ∷ members
 
--- The member of this name gets this value, or goes; a new one goes before the first whose name is greater.
+-- The member of this name gets this value, or goes; a new one goes before the first whose name is
+-- greater.
 abbrev pub with_value : List ℕ → Option (List ℕ) → List Member → List Member
 with_value name value [] = made name value
 with_value name value (member ∷ members) =

@@ -1,5 +1,5 @@
--- What undoing a change makes of an element that others may have changed since. This project's own, after Excalidraw's
--- history.
+-- What undoing a change makes of an element that others may have changed since. This project's own,
+-- after Excalidraw's history.
 use Rattle.std.specs.Prelude.{◌≡◌, ◌≢◌, ℕ, List, Bool, Option, bytes_eq, if◌then◌else◌}
 use Rattle.elem.specs.ElementValue.{ElementValue}
 use Rattle.delta.specs.Applied.{KeepsStamp}
@@ -14,7 +14,8 @@ undone_scalar before after now = if scalars_same before after then now else befo
 
 -- A list that differed changes back, item by item.
 abbrev pub undone_list : {T : Type 0} → (T → T → Bool) → List T → List T → List T → List T
-undone_list same before after now = if are_same same before after then now else joined same after before now
+undone_list same before after now =
+    if are_same same before after then now else joined same after before now
 
 -- Each member outside the stamp in which before and after differ is undone, and the others stay.
 pub record Undoes (before after now result : ElementValue) : Type 0 where

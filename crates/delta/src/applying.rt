@@ -21,8 +21,9 @@ use elem::{BoundRef, Element};
 use json_text::{Raw, Text};
 use std::alloc::{AllocError, Global};
 
-/// What the part makes of an element with its id: each scalar becomes that of after, whatever it is now, and the lists
-/// change item by item. An element of another kind stays as it is, and so does every stamp.
+/// What the part makes of an element with its id: each scalar becomes that of after, whatever it is
+/// now, and the lists change item by item. An element of another kind stays as it is, and so does
+/// every stamp.
 pub fn apply(alloc: Global, part: &Part, now: &Element) -> Result<Element, AllocError>
     requires { part.now.id ≡ now.now.id }
     ensures applied { IfOk result (IsApplied part.now now.now) }

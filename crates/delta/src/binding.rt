@@ -37,7 +37,8 @@ pub(crate) fn binding_raw(alloc: Global, binding: &Option<Binding>) -> Result<Ra
 
 /// The binding of such a text, or none where it is null.
 pub(crate) fn binding_of(alloc: Global, value: &Raw) -> Result<Option<Binding>, AllocError>
-    requires { (binding : Option Binding) × IfSome binding IsBinding × (value.now ≡ binding_text binding) }
+    requires { (binding : Option Binding) × IfSome binding IsBinding
+        × (value.now ≡ binding_text binding) }
     ensures text { IfOk result (λ found. binding_text found ≡ value.now) }
     ensures is_binding { IfOk result (λ found. IfSome found IsBinding) }
 {
@@ -70,7 +71,8 @@ fn object_members(alloc: Global, value: &Raw) -> Result<Vec<Member>, AllocError>
 /// The text that the member of this name is a string of.
 fn target_in(alloc: Global, members: &Vec<Member>, name: &Text) -> Result<Text, AllocError>
     requires rise { are_rising (names members.now.items) ≡ true }
-    requires string { (text : Items ℕ) × (value_named name.now members.now.items ≡ Some (quote text)) }
+    requires string { (text : Items ℕ)
+        × (value_named name.now members.now.items ≡ Some (quote text)) }
     ensures { IfOk result (λ found. value_named name.now members.now.items ≡ Some (quote found)) }
 {
     match find_value(members, name) {

@@ -10,7 +10,8 @@ use std::alloc::AllocError;
 /// A change of one member of an element, from what it was before to what it is after.
 #[derive(Drop)]
 pub enum Change {
-    /// A member that changes as a whole, by its compact texts; there is none where the element has no such member.
+    /// A member that changes as a whole, by its compact texts; there is none where the element has
+    /// no such member.
     Scalar {
         name: Text,
         before: Option<Raw>,

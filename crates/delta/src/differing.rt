@@ -23,11 +23,13 @@ use elem::{BoundRef, Element};
 use json_text::{Member, Raw, Text};
 use std::alloc::{AllocError, Global};
 
-/// The members outside the stamp in which the elements differ. Where there is no old element, it counts as the new one,
-/// deleted.
+/// The members outside the stamp in which the elements differ. Where there is no old element, it
+/// counts as the new one, deleted.
 pub fn difference(alloc: Global, old: Option<&Element>, new: &Element) -> Result<Part, AllocError>
-    requires { IfSome (option_copied old) (λ old. (old.id ≡ new.now.id) × (old.kind ≡ new.now.kind)) }
-    ensures { IfOk result (λ part. PartStandsFor part (counted (option_copied old.entry) new.now) new.now) }
+    requires { IfSome (option_copied old) (λ old. (old.id ≡ new.now.id)
+        × (old.kind ≡ new.now.kind)) }
+    ensures { IfOk result (λ part. PartStandsFor part (counted (option_copied old.entry) new.now)
+        new.now) }
 {
     let changes = match old {
         Some(old) => changes_between(alloc, old, new)?,
@@ -42,7 +44,8 @@ pub fn difference(alloc: Global, old: Option<&Element>, new: &Element) -> Result
 
 /// The changes from the element, deleted, to itself.
 fn creation(alloc: Global, new: &Element) -> Result<Vec<Change>, AllocError>
-    ensures { IfOk result (λ changes. AreAllChanges (record new.now { deleted = true }) new.now changes.items) }
+    ensures { IfOk result (λ changes. AreAllChanges (record new.now { deleted = true }) new.now
+        changes.items) }
 {
     let mut old = new.try_clone()?;
     old.deleted = true;
@@ -87,7 +90,8 @@ fn groups_change(before: &List<Text>, after: &List<Text>) -> Result<Option<Chang
 /// Adds the change of the listing, if it differs.
 fn note_bound(changes: &mut Vec<Change>, old: &Element, new: &Element) -> Result<(), AllocError>
     requires { AreChangesOf old.now new.now (codes "groupIds" ∷ []) changes.old.items }
-    ensures { OnOk result (AreChangesOf old.now new.now (codes "groupIds" ∷ codes "boundElements" ∷ []) changes.new.items) }
+    ensures { OnOk result (AreChangesOf old.now new.now (codes "groupIds" ∷ codes "boundElements"
+        ∷ []) changes.new.items) }
 {
     add(changes, bound_change(&old.bound, &new.bound)?)
 }
@@ -116,10 +120,13 @@ fn note_headers(
     new: &Element,
 ) -> Result<(), AllocError>
     requires kind { old.now.kind ≡ new.now.kind }
-    requires told { AreChangesOf old.now new.now (codes "groupIds" ∷ codes "boundElements" ∷ []) changes.old.items }
+    requires told { AreChangesOf old.now new.now (codes "groupIds" ∷ codes "boundElements" ∷ [])
+        changes.old.items }
     ensures { OnOk result (AreChangesOf old.now new.now
-        (codes "groupIds" ∷ codes "boundElements" ∷ codes "isDeleted" ∷ codes "index" ∷ codes "frameId"
-        ∷ codes "containerId" ∷ codes "startBinding" ∷ codes "endBinding" ∷ codes "fileId" ∷ []) changes.new.items) }
+        (codes "groupIds" ∷ codes "boundElements" ∷ codes "isDeleted" ∷ codes "index"
+        ∷ codes "frameId"
+        ∷ codes "containerId" ∷ codes "startBinding" ∷ codes "endBinding" ∷ codes "fileId" ∷ [])
+        changes.new.items) }
 {
     note_named(alloc, changes, old, new, "isDeleted")?;
     note_named(alloc, changes, old, new, "index")?;
@@ -154,7 +161,8 @@ fn note_rest(
     new: &Element,
     rest: &List<Member>,
 ) -> Result<(), AllocError>
-    requires free { list_any (λ name. list_any (bytes_eq name) other_names) (names rest.now) ≡ false }
+    requires free { list_any (λ name. list_any (bytes_eq name) other_names) (names rest.now)
+        ≡ false }
     requires kind { old.now.kind ≡ new.now.kind }
     ensures { (known : Items (Items ℕ)) → AreChangesOf old.now new.now known changes.old.items
         → OnOk result (AreChangesOf old.now new.now (known ++ names rest.now) changes.new.items) }
@@ -245,7 +253,8 @@ fn add(changes: &mut Vec<Change>, change: Option<Change>) -> Result<(), AllocErr
     }
 }
 
-/// Puts the change where the name of its member belongs, in the place of the one of this member, if there is one.
+/// Puts the change where the name of its member belongs, in the place of the one of this member, if
+/// there is one.
 fn put(changes: &mut Vec<Change>, change: Change) -> Result<(), AllocError>
     ensures { are_rising (change_names changes.old.items) ≡ true
         → OnOk result (changes.new.items ≡ with_item name_of change changes.old.items) }
@@ -263,9 +272,11 @@ fn put(changes: &mut Vec<Change>, change: Change) -> Result<(), AllocError>
 fn place_of(changes: &[Change], change: &Change) -> usize
     ensures bound { result ≤ length changes.now }
     ensures before { are_rising (change_names changes.now) ≡ true
-        → All (λ other. bytes_less (name_of other) (name_of change.now) ≡ true) (take result changes.now) }
+        → All (λ other. bytes_less (name_of other) (name_of change.now) ≡ true)
+        (take result changes.now) }
     ensures behind { are_rising (change_names changes.now) ≡ true
-        → All (λ other. bytes_less (name_of other) (name_of change.now) ≡ false) (drop result changes.now) }
+        → All (λ other. bytes_less (name_of other) (name_of change.now) ≡ false)
+        (drop result changes.now) }
 {
     changes.partition_point(|other| is_before(other, change))
 }

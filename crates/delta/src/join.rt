@@ -106,7 +106,8 @@ fn kept<T: Item>(
     after: &List<T>,
     now: &List<T>,
 ) -> Result<Vec<T>, AllocError>
-    ensures { IfOk result (λ items. items.items ≡ filter (stays T.same before.now after.now) now.now) }
+    ensures { IfOk result (λ items. items.items ≡ filter (stays T.same before.now after.now)
+        now.now) }
 {
     let mut items = Vec::new(alloc);
     for item in now.as_slice() {
@@ -158,7 +159,8 @@ fn gain<T: Item>(
 ) -> Result<(), AllocError>
     ensures { OnOk result (items.new.items
         ≡ (if is_gained T.same before.now now.now item.now && not
-        (is_in T.same items.old.items item.now) then items.old.items ++ item.now ∷ [] else items.old.items)) }
+        (is_in T.same items.old.items item.now) then items.old.items ++ item.now
+        ∷ [] else items.old.items)) }
 {
     if is_gained(before.as_slice(), now.as_slice(), item) && !is_in(items, item) {
         items.push(item.try_clone()?)?;

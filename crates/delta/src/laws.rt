@@ -19,26 +19,30 @@ pub fn inverse_of_inverse()
 pub fn applied_is_unique()
     ensures { (part : Delta) (now result other : ElementValue)
         → IsElement result → IsElement other → part.kind ≡ now.kind
-        → IsApplied part now result → IsApplied part now other → unstamped result ≡ unstamped other }
+        → IsApplied part now result → IsApplied part now other
+        → unstamped result ≡ unstamped other }
 {}
 
-/// The difference of two elements makes the new one of the old one, but for the stamp, and its inverse makes the old
-/// one of the new one.
+/// The difference of two elements makes the new one of the old one, but for the stamp, and its
+/// inverse makes the old one of the new one.
 pub fn difference_leads_on_and_back()
     ensures on { (part : Delta) (old new result : ElementValue)
         → IsElement old → IsElement new → IsElement result → old.id ≡ new.id → old.kind ≡ new.kind
-        → PartStandsFor part old new → IsApplied part old result → unstamped result ≡ unstamped new }
+        → PartStandsFor part old new → IsApplied part old result
+        → unstamped result ≡ unstamped new }
     ensures back { (part : Delta) (old new result : ElementValue)
         → IsElement old → IsElement new → IsElement result → old.id ≡ new.id → old.kind ≡ new.kind
-        → PartStandsFor part old new → IsApplied (inverse part) new result → unstamped result ≡ unstamped old }
+        → PartStandsFor part old new → IsApplied (inverse part) new result
+        → unstamped result ≡ unstamped old }
 {}
 
-/// The inverse of a part makes the undone element of any element: what others changed meanwhile stays, but for the
-/// members in which the part's elements differ.
+/// The inverse of a part makes the undone element of any element: what others changed meanwhile
+/// stays, but for the members in which the part's elements differ.
 pub fn inverse_undoes()
     ensures { (part : Delta) (before after now result : ElementValue)
         → IsElement before → IsElement after → IsElement now → IsElement result
-        → PartStandsFor part before after → IsApplied (inverse part) now result → IsUndone before after now result }
+        → PartStandsFor part before after → IsApplied (inverse part) now result
+        → IsUndone before after now result }
 {}
 
 /// Two elements have one part.

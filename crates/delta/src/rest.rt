@@ -21,7 +21,8 @@ pub(crate) fn find_value<'a>(members: &'a [Member], name: &Text) -> Option<&'a R
 
 /// The value of the member at the place, if it has this name.
 fn value_at<'a>(members: &'a [Member], place: usize, name: &Text) -> Option<&'a Raw>
-    ensures { option_copied result ≡ option_and_then (value_if name.now) (slice_get members.now place) }
+    ensures { option_copied result
+        ≡ option_and_then (value_if name.now) (slice_get members.now place) }
 {
     match members.get(place) {
         Some(member) if *name == member.name => Some(&member.value),
@@ -72,8 +73,10 @@ fn is_named_at(members: &Vec<Member>, place: usize, name: &Text) -> bool
 pub(crate) fn place_of(members: &[Member], name: &Text) -> usize
     requires { are_rising (names members.now) ≡ true }
     ensures bound { result ≤ length members.now }
-    ensures before { All (λ member. bytes_less member.name name.now ≡ true) (take result members.now) }
-    ensures behind { All (λ member. bytes_less member.name name.now ≡ false) (drop result members.now) }
+    ensures before { All (λ member. bytes_less member.name name.now ≡ true)
+        (take result members.now) }
+    ensures behind { All (λ member. bytes_less member.name name.now ≡ false)
+        (drop result members.now) }
 {
     members.partition_point(|member| is_less(&member.name, name))
 }

@@ -15,12 +15,16 @@ pub struct AtLimit;
 #[derive(Drop)]
 pub struct VersionFull(pub Text);
 
-/// Raises the version by one and sets the nonce and the time. `AtLimit` comes exactly at the greatest version. It takes
-/// no memory.
+/// Raises the version by one and sets the nonce and the time. `AtLimit` comes exactly at the
+/// greatest version. It takes no memory.
 pub fn stamp(e: &mut Element, time: u64, nonce: u64) -> Result<(), AtLimit>
     requires time { time ≤ greatest_whole }
     requires nonce { nonce ≤ greatest_whole }
-    ensures ok { OnOk result (e.new ≡ record e.old { version = e.old.version + 1; nonce = nonce; updated = time }) }
+    ensures ok { OnOk result (e.new ≡ record e.old {
+      version = e.old.version + 1;
+      nonce = nonce;
+      updated = time;
+    }) }
     ensures limit { IsErr result ↔ (e.old.version ≡ greatest_whole) }
     ensures err { OnErr result (e.new ≡ e.old) }
 {

@@ -1,5 +1,5 @@
--- What is drawn from a generator: PCG XSH RR 64/32 (M. E. O'Neill), as the crate rand_pcg has it; which seed it begins
--- with is that of rand_core's `seed_from_u64`.
+-- What is drawn from a generator: PCG XSH RR 64/32 (M. E. O'Neill), as the crate rand_pcg has it;
+-- which seed it begins with is that of rand_core's `seed_from_u64`.
 use Rattle.std.specs.Prelude.{ℕ}
 use Rattle.rand_core.specs.Pcg32Seed.{pcg32_seed}
 use Rattle.rand_pcg.specs.Lcg.{Lcg}

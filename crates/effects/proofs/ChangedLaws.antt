@@ -32,67 +32,95 @@ use Rattle.effects.proofs.CreatedLaws.{AreApart, absent, created-unknown, distin
 use Rattle.effects.proofs.OutcomeLaws.{mapped-cases, mapped-rises}
 
 -- what agrees on each element agrees on all
-find-same : (p q : ElementValue → Bool) (es : List ElementValue) → ((e : ElementValue) → Contains es e → p e ≡ q e) → find p es ≡ find q es
+find-same : (p q : ElementValue → Bool) (es : List ElementValue) → ((e : ElementValue) → Contains es e → p e ≡ q e)
+    → find p es ≡ find q es
 find-same p q [] same = refl
 find-same p q (e ∷ es) same =
     ap (λ b. if b then Some e else find p es) (same e (Contains-head e es))
     ∙ ap (λ o. if q e then Some e else o) (find-same p q es (λ d c. same d (Contains-cons e es d c)))
 
-mapped-same : (f g : ElementValue → Option ElementValue) (es : List ElementValue) → ((e : ElementValue) → Contains es e → f e ≡ g e) → filter_map f es ≡ filter_map g es
+mapped-same : (f g : ElementValue → Option ElementValue) (es : List ElementValue)
+    → ((e : ElementValue) → Contains es e → f e ≡ g e) → filter_map f es ≡ filter_map g es
 mapped-same f g [] same = refl
 mapped-same f g (e ∷ es) same =
-    ap (λ o. cons_option o (filter_map f es)) (same e (Contains-head e es)) ∙ ap (cons_option (g e)) (mapped-same f g es (λ d c. same d (Contains-cons e es d c)))
+    ap (λ o. cons_option o (filter_map f es)) (same e (Contains-head e es))
+    ∙ ap (cons_option (g e)) (mapped-same f g es (λ d c. same d (Contains-cons e es d c)))
 
 module _ (stored shown : List ElementValue) (command : Command) (time nonce : ℕ) where
-  pub outcome-refused : (refusal : Refusal) → refusal_of stored shown command ≡ Some refusal → outcome stored shown command time nonce ≡ Err refusal
+  pub outcome-refused : (refusal : Refusal) → refusal_of stored shown command ≡ Some refusal
+      → outcome stored shown command time nonce ≡ Err refusal
   outcome-refused refusal is = ap (λ o. outcome_unless o stored shown command time nonce) is
 
   abbrev found : (ElementValue → ElementValue) → Result (List ElementValue) Refusal
-  found makes = outcome_from (find (is_full makes) stored) (created shown command time nonce) (changes_of makes time nonce stored)
+  found makes =
+      outcome_from (find (is_full makes) stored) (created shown command time nonce) (changes_of makes time nonce stored)
 
-  open-outcome : (prepared : Effect) → refusal_of stored shown command ≡ None → Prepares stored shown command prepared → outcome stored shown command time nonce ≡ found (made_by prepared)
+  open-outcome : (prepared : Effect) → refusal_of stored shown command ≡ None → Prepares stored shown command prepared
+      → outcome stored shown command time nonce ≡ found (made_by prepared)
   open-outcome prepared none prepares =
       ap (λ o. outcome_unless o stored shown command time nonce) none
-      ∙ ap (λ o. outcome_from o (created shown command time nonce) (changes_of (effect stored shown command) time nonce stored)) (find-same (is_full (effect stored shown command)) (is_full (made_by prepared)) stored (λ e c. same-full e c))
-      ∙ ap (outcome_from (find (is_full (made_by prepared)) stored) (created shown command time nonce)) (mapped-same (change_of (effect stored shown command) time nonce) (change_of (made_by prepared) time nonce) stored (λ e c. same-change e c))
+      ∙ ap (λ o. outcome_from o (created shown command time nonce)
+      (changes_of (effect stored shown command) time nonce stored))
+      (find-same (is_full (effect stored shown command)) (is_full (made_by prepared)) stored (λ e c. same-full e c))
+      ∙ ap (outcome_from (find (is_full (made_by prepared)) stored) (created shown command time nonce))
+      (mapped-same (change_of (effect stored shown command) time nonce) (change_of (made_by prepared) time nonce)
+      stored (λ e c. same-change e c))
     where
-      same-full : (e : ElementValue) → Contains stored e → is_full (effect stored shown command) e ≡ is_full (made_by prepared) e
+      same-full : (e : ElementValue) → Contains stored e → is_full (effect stored shown command) e
+          ≡ is_full (made_by prepared) e
       same-full e c = elim (cases_Bool (is_live e)) [
-        | inl live ↦ ap (λ (d : ElementValue). (is_live e && differs e d) && e.version == greatest_whole) (sym (prepares.exact e c live))
+        | inl live ↦ ap (λ (d : ElementValue). (is_live e && differs e d) && e.version == greatest_whole)
+            (sym (prepares.exact e c live))
         | inr dead ↦ rw dead refl
       ]
 
-      same-change : (e : ElementValue) → Contains stored e → change_of (effect stored shown command) time nonce e ≡ change_of (made_by prepared) time nonce e
+      same-change : (e : ElementValue) → Contains stored e → change_of (effect stored shown command) time nonce e
+          ≡ change_of (made_by prepared) time nonce e
       same-change e c = elim (cases_Bool (is_live e)) [
-        | inl live ↦ ap (λ (d : ElementValue). if is_live e && differs e d then Some (stamped time nonce d) else None) (sym (prepares.exact e c live))
+        | inl live ↦ ap (λ (d : ElementValue). if is_live e && differs e d then Some (stamped time nonce d) else None)
+            (sym (prepares.exact e c live))
         | inr dead ↦ rw dead refl
       ]
 
-  full-from : (o : Option ElementValue) (new changes : List ElementValue) (refusal : Refusal) → option_map refusal_at o ≡ Some refusal → outcome_from o new changes ≡ Err refusal
-  full-from None new changes refusal h = absurd (subst (λ (o : Option Refusal). elim o as (λ _. Type 0) [ None ↦ Unit {0} | Some _ ↦ ⊥ ]) h tt)
+  full-from : (o : Option ElementValue) (new changes : List ElementValue) (refusal : Refusal)
+      → option_map refusal_at o ≡ Some refusal → outcome_from o new changes ≡ Err refusal
+  full-from None new changes refusal h =
+      absurd (subst (λ (o : Option Refusal). elim o as (λ _. Type 0) [ None ↦ Unit {0} | Some _ ↦ ⊥ ]) h tt)
   full-from (Some e) new changes refusal h = ap Err (same_Some (refusal_at e) refusal h)
 
-  pub outcome-full : (prepared : Effect) (refusal : Refusal) → refusal_of stored shown command ≡ None → Prepares stored shown command prepared → option_map refusal_at (find (is_full (made_by prepared)) stored) ≡ Some refusal
+  pub outcome-full : (prepared : Effect) (refusal : Refusal) → refusal_of stored shown command ≡ None
+      → Prepares stored shown command prepared → option_map refusal_at (find (is_full (made_by prepared)) stored)
+      ≡ Some refusal
       → outcome stored shown command time nonce ≡ Err refusal
   outcome-full prepared refusal none prepares full =
-      open-outcome prepared none prepares ∙ full-from _ (created shown command time nonce) (changes_of (made_by prepared) time nonce stored) refusal full
+      open-outcome prepared none prepares
+      ∙ full-from _ (created shown command time nonce) (changes_of (made_by prepared) time nonce stored) refusal
+      full
 
-  pub outcome-ok : (prepared : Effect) (new changed all : List ElementValue) → refusal_of stored shown command ≡ None → Prepares stored shown command prepared → find (is_full (made_by prepared)) stored ≡ None
-      → changed ≡ changes_of (made_by prepared) time nonce stored → new ≡ created shown command time nonce → all ≡ with_created new changed → outcome stored shown command time nonce ≡ Ok all
+  pub outcome-ok : (prepared : Effect) (new changed all : List ElementValue) → refusal_of stored shown command ≡ None
+      → Prepares stored shown command prepared → find (is_full (made_by prepared)) stored ≡ None
+      → changed ≡ changes_of (made_by prepared) time nonce stored → new ≡ created shown command time nonce
+      → all ≡ with_created new changed → outcome stored shown command time nonce ≡ Ok all
   outcome-ok prepared new changed all none prepares free made created' is =
       open-outcome prepared none prepares
-      ∙ ap (λ o. outcome_from o (created shown command time nonce) (changes_of (made_by prepared) time nonce stored)) free
-      ∙ ap Ok (sym (is ∙ ap (λ n. with_created n changed) created' ∙ ap (with_created (created shown command time nonce)) made))
+      ∙ ap (λ o. outcome_from o (created shown command time nonce) (changes_of (made_by prepared) time nonce stored))
+      free
+      ∙ ap Ok (sym (is ∙ ap (λ n. with_created n changed) created'
+      ∙ ap (with_created (created shown command time nonce)) made))
 
 -- no part of what is refused refuses
 pub guarded-none : (a b c d : Option Refusal) → option_or a (option_or b (option_or c d)) ≡ None → d ≡ None
 guarded-none None None None d h = h
-guarded-none None None (Some c) d h = absurd (subst (λ (o : Option Refusal). elim o as (λ _. Type 0) [ None ↦ ⊥ | Some _ ↦ Unit {0} ]) h tt)
-guarded-none None (Some b) c d h = absurd (subst (λ (o : Option Refusal). elim o as (λ _. Type 0) [ None ↦ ⊥ | Some _ ↦ Unit {0} ]) h tt)
-guarded-none (Some a) b c d h = absurd (subst (λ (o : Option Refusal). elim o as (λ _. Type 0) [ None ↦ ⊥ | Some _ ↦ Unit {0} ]) h tt)
+guarded-none None None (Some c) d h =
+    absurd (subst (λ (o : Option Refusal). elim o as (λ _. Type 0) [ None ↦ ⊥ | Some _ ↦ Unit {0} ]) h tt)
+guarded-none None (Some b) c d h =
+    absurd (subst (λ (o : Option Refusal). elim o as (λ _. Type 0) [ None ↦ ⊥ | Some _ ↦ Unit {0} ]) h tt)
+guarded-none (Some a) b c d h =
+    absurd (subst (λ (o : Option Refusal). elim o as (λ _. Type 0) [ None ↦ ⊥ | Some _ ↦ Unit {0} ]) h tt)
 
 -- ---- the new elements of a command beside the changed ones
-module _ (stored shown : List ElementValue) (command : Command) (time nonce : ℕ) (makes : ElementValue → ElementValue) (keeps : (e : ElementValue) → (makes e).id ≡ e.id) where
+module _ (stored shown : List ElementValue) (command : Command) (time nonce : ℕ) (makes : ElementValue
+    → ElementValue) (keeps : (e : ElementValue) → (makes e).id ≡ e.id) where
   change-id : (old e : ElementValue) → change_of makes time nonce old ≡ Some e → e.id ≡ old.id
   change-id old e h =
       let one = cond_some (is_changed makes old) (stamped time nonce (makes old)) e h in
@@ -101,11 +129,13 @@ module _ (stored shown : List ElementValue) (command : Command) (time nonce : �
   pub changes-rise : are_rising (ids_of stored) ≡ true → are_rising (ids_of (changes_of makes time nonce stored)) ≡ true
   changes-rise rise = mapped-rises (change_of makes time nonce) change-id None stored rise
 
-  pub new-apart : existing stored command ≡ None → AreApart (created shown command time nonce) (changes_of makes time nonce stored)
+  pub new-apart : existing stored command ≡ None
+      → AreApart (created shown command time nonce) (changes_of makes time nonce stored)
   new-apart free d c =
       find-None (has_id d.id) (changes_of makes time nonce stored) (λ e f.
       let from = mapped-cases (change_of makes time nonce) stored e f in
-      ap (bytes_eq d.id) (change-id from.0 e from.2) ∙ absent d.id stored from.0 (created-unknown stored shown time nonce command d free c) from.1)
+      ap (bytes_eq d.id) (change-id from.0 e from.2)
+      ∙ absent d.id stored from.0 (created-unknown stored shown time nonce command d free c) from.1)
 
 -- ---- the ids of new elements are distinct
 module _ (x : List ℕ) where
@@ -142,19 +172,28 @@ new-ids : (time nonce : ℕ) (es : List ElementValue) → ids_of (map (as_new ti
 new-ids time nonce [] = refl
 new-ids time nonce (e ∷ es) = ap (λ ids. e.id ∷ ids) (new-ids time nonce es)
 
-pub copies-at-distinct : (shown list : List ElementValue) (prefix : List ℕ) (spot : Spot) (time nonce : ℕ) → HaveDistinctIds list → HaveDistinctIds (copies_at shown list prefix spot time nonce)
+pub copies-at-distinct : (shown list : List ElementValue) (prefix : List ℕ) (spot : Spot) (time nonce : ℕ)
+    → HaveDistinctIds list → HaveDistinctIds (copies_at shown list prefix spot time nonce)
 copies-at-distinct shown list prefix spot time nonce distinct =
     let copies = copies_of list prefix in
     let keys = keys_at shown spot (length copies) in
-    subst (IsDistinct bytes_eq) (sym (new-ids time nonce (keyed copies keys))) (keyed-distinct copies keys (copies-distinct list prefix distinct))
+    subst (IsDistinct bytes_eq) (sym (new-ids time nonce (keyed copies keys)))
+    (keyed-distinct copies keys (copies-distinct list prefix distinct))
 
-pub duplicates-distinct : (shown : List ElementValue) (ids : List (List ℕ)) (prefix : List ℕ) (spot : Spot) (time nonce : ℕ) → HaveDistinctIds shown → HaveDistinctIds (copies_at shown (shown_among ids shown) prefix spot time nonce)
+pub duplicates-distinct : (shown : List ElementValue) (ids : List (List ℕ)) (prefix : List ℕ) (spot : Spot)
+    (time nonce : ℕ) → HaveDistinctIds shown
+    → HaveDistinctIds (copies_at shown (shown_among ids shown) prefix spot time nonce)
 duplicates-distinct shown ids prefix spot time nonce distinct =
-    copies-at-distinct shown (shown_among ids shown) prefix spot time nonce (among-distinct (λ (e : ElementValue). is_among ids e.id) shown distinct)
+    copies-at-distinct shown (shown_among ids shown) prefix spot time nonce
+    (among-distinct (λ (e : ElementValue). is_among ids e.id) shown distinct)
 
-pub created-distinct : (shown : List ElementValue) (command : Command) (time nonce : ℕ) → IsWithinLimits command → HaveDistinctIds shown → HaveDistinctIds (created shown command time nonce)
+pub created-distinct : (shown : List ElementValue) (command : Command) (time nonce : ℕ) → IsWithinLimits command
+    → HaveDistinctIds shown → HaveDistinctIds (created shown command time nonce)
 unfolding IsDistinct
-created-distinct shown (commands.Create element spot) time nonce limits distinct = distinct-one (created_at shown element spot time nonce)
-created-distinct shown (commands.Duplicate ids prefix spot) time nonce limits distinct = duplicates-distinct shown ids prefix spot time nonce distinct
-created-distinct shown (commands.Paste elements prefix spot) time nonce limits distinct = copies-at-distinct shown elements prefix spot time nonce limits
+created-distinct shown (commands.Create element spot) time nonce limits distinct =
+    distinct-one (created_at shown element spot time nonce)
+created-distinct shown (commands.Duplicate ids prefix spot) time nonce limits distinct =
+    duplicates-distinct shown ids prefix spot time nonce distinct
+created-distinct shown (commands.Paste elements prefix spot) time nonce limits distinct =
+    copies-at-distinct shown elements prefix spot time nonce limits
 created-distinct shown command time nonce limits distinct = tt

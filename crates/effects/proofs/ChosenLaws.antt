@@ -1,5 +1,5 @@
--- The stored elements of some ids, in the order of these: what an effect changes of them is what it changes of all, where it
--- leaves the others as they are.
+-- The stored elements of some ids, in the order of these: what an effect changes of them is what it changes of all,
+-- where it leaves the others as they are.
 use Rattle.std.proofs.Common.{◌≡◌, ℕ, Bool, true, false, ◌&&◌, ◌||◌, List, [], ◌∷◌, Option, Some, None, Contains, filter, find, bytes_eq, is_lt, nat_cmp, if◌then◌else◌, inl, inr, refl, sym, ap, ◌∙◌, subst}
 use Rattle.std.specs.BTreeSet.{BTreeSet, contains}
 use Rattle.std.specs.Cmp.Lexicographic.{slice_cmp}
@@ -27,18 +27,23 @@ use Rattle.effects.proofs.NamedLaws.{own-id}
 use Rattle.effects.proofs.OutcomeLaws.{rises-from}
 
 -- ---- ids of a set
-pub contains-among : (set : BTreeSet (List ℕ)) (id : List ℕ) → contains (slice_cmp nat_cmp) set id ≡ is_among set.keys id
+pub contains-among : (set : BTreeSet (List ℕ)) (id : List ℕ)
+    → contains (slice_cmp nat_cmp) set id ≡ is_among set.keys id
 contains-among set id = ap (λ (h : List ℕ → Bool). list_any h set.keys) (λ i k. is_eq-slice_cmp id k i)
 
-below-less : (key : List ℕ) (keys : List (List ℕ)) → AllByRecursion (λ y. slice_cmp nat_cmp key y ≡ Less) keys → AllByRecursion (λ y. bytes_less key y ≡ true) keys
+below-less : (key : List ℕ) (keys : List (List ℕ)) → AllByRecursion (λ y. slice_cmp nat_cmp key y ≡ Less) keys
+    → AllByRecursion (λ y. bytes_less key y ≡ true) keys
 below-less key [] all = tt
 below-less key (y ∷ keys) all = (ap is_lt all.0, below-less key keys all.1)
 
-keys-rise : (low : Option (List ℕ)) (keys : List (List ℕ)) → AllByRecursion (λ key. ends_rise low (Some key) ≡ true) keys → IsStrictlySortedBy (slice_cmp nat_cmp) keys → rise_between low None keys ≡ true
+keys-rise : (low : Option (List ℕ)) (keys : List (List ℕ))
+    → AllByRecursion (λ key. ends_rise low (Some key) ≡ true) keys → IsStrictlySortedBy (slice_cmp nat_cmp) keys
+    → rise_between low None keys ≡ true
 unfolding IsStrictlySortedBy
 keys-rise None [] above sorted = refl
 keys-rise (Some k) [] above sorted = refl
-keys-rise low (key ∷ keys) above sorted = and_from _ _ above.0 (keys-rise (Some key) keys (below-less key keys sorted.0) sorted.1)
+keys-rise low (key ∷ keys) above sorted =
+    and_from _ _ above.0 (keys-rise (Some key) keys (below-less key keys sorted.0) sorted.1)
 
 free : (keys : List (List ℕ)) → AllByRecursion (λ (key : List ℕ). ends_rise None (Some key) ≡ true) keys
 free [] = tt
@@ -49,8 +54,10 @@ set-rises set sorted = keys-rise None set.keys (free set.keys) sorted
 
 -- ---- the elements of an id
 -- among those that pass by their ids
-pub filtered-of : (p : List ℕ → Bool) (es : List ElementValue) (id : List ℕ) → element_of (filter (λ (e : ElementValue). p e.id) es) id ≡ (if p id then element_of es id else None)
-filtered-of p [] id = elim (p id) as (λ (b : Bool). ◌≡◌ {A = Option ElementValue} None (if b then None else None)) [ true ↦ refl | false ↦ refl ]
+pub filtered-of : (p : List ℕ → Bool) (es : List ElementValue) (id : List ℕ)
+    → element_of (filter (λ (e : ElementValue). p e.id) es) id ≡ (if p id then element_of es id else None)
+filtered-of p [] id = elim (p id) as (λ (b : Bool). ◌≡◌ {A = Option ElementValue} None (if b then None else None))
+    [ true ↦ refl | false ↦ refl ]
 filtered-of p (e ∷ es) id = elim (cases_Bool (bytes_eq id e.id)) [
   | inl same ↦
       let own : p id ≡ p e.id = ap p (bytes_eq-true id e.id same) in
@@ -64,13 +71,15 @@ filtered-of p (e ∷ es) id = elim (cases_Bool (bytes_eq id e.id)) [
   ]
 ]
 
-filter-rises : (p : ElementValue → Bool) (low : Option (List ℕ)) (es : List ElementValue) → rise_between low None (ids_of es) ≡ true → rise_between low None (ids_of (filter p es)) ≡ true
+filter-rises : (p : ElementValue → Bool) (low : Option (List ℕ)) (es : List ElementValue)
+    → rise_between low None (ids_of es) ≡ true → rise_between low None (ids_of (filter p es)) ≡ true
 filter-rises p low [] h = h
 filter-rises p low (e ∷ es) h =
     let parts = and_parts (ends_rise low (Some e.id)) (rise_between (Some e.id) None (ids_of es)) h in
     let later = filter-rises p (Some e.id) es parts.1 in
     elim (cases_Bool (p e)) [
-      | inl passes ↦ rw passes (and_from (ends_rise low (Some e.id)) (rise_between (Some e.id) None (ids_of (filter p es))) parts.0 later)
+      | inl passes ↦ rw passes (and_from (ends_rise low (Some e.id))
+          (rise_between (Some e.id) None (ids_of (filter p es))) parts.0 later)
       | inr fails ↦ rw fails (rises-from low e.id (filter p es) parts.0 later)
     ]
 
@@ -79,15 +88,19 @@ module _ (stored : List ElementValue) where
   abbrev pub chosen : List (List ℕ) → List ElementValue
   chosen ids = filter_map (element_of stored) ids
 
-  chosen-rises : (low : Option (List ℕ)) (ids : List (List ℕ)) → rise_between low None ids ≡ true → rise_between low None (ids_of (chosen ids)) ≡ true
+  chosen-rises : (low : Option (List ℕ)) (ids : List (List ℕ)) → rise_between low None ids ≡ true
+      → rise_between low None (ids_of (chosen ids)) ≡ true
   chosen-rises low [] h = h
   chosen-rises low (id ∷ ids) h =
       let parts = and_parts (ends_rise low (Some id)) (rise_between (Some id) None ids) h in
       let later = chosen-rises (Some id) ids parts.1 in
       elim (some-or-none (element_of stored id)) [
-        | inl none ↦ subst (λ (o : Option ElementValue). rise_between low None (ids_of (cons_option o (chosen ids))) ≡ true) (sym none) (rises-from low id (chosen ids) parts.0 later)
-        | inr some ↦ subst (λ (o : Option ElementValue). rise_between low None (ids_of (cons_option o (chosen ids))) ≡ true) (sym some.1)
-            (subst (λ (k : List ℕ). (ends_rise low (Some k) && rise_between (Some k) None (ids_of (chosen ids))) ≡ true) (own-id stored id some.0 some.1)
+        | inl none ↦ subst (λ (o : Option ElementValue). rise_between low None (ids_of (cons_option o (chosen ids)))
+            ≡ true) (sym none) (rises-from low id (chosen ids) parts.0 later)
+        | inr some ↦ subst (λ (o : Option ElementValue). rise_between low None (ids_of (cons_option o (chosen ids)))
+            ≡ true) (sym some.1)
+            (subst (λ (k : List ℕ). (ends_rise low (Some k) && rise_between (Some k) None (ids_of (chosen ids))) ≡ true)
+            (own-id stored id some.0 some.1)
             (and_from (ends_rise low (Some id)) (rise_between (Some id) None (ids_of (chosen ids))) parts.0 later))
       ]
 
@@ -95,15 +108,18 @@ module _ (stored : List ElementValue) where
   nothing-else true o none = none
   nothing-else false o none = refl
 
-  chosen-of : (ids : List (List ℕ)) (id : List ℕ) → element_of (chosen ids) id ≡ (if is_among ids id then element_of stored id else None)
+  chosen-of : (ids : List (List ℕ)) (id : List ℕ) → element_of (chosen ids) id
+      ≡ (if is_among ids id then element_of stored id else None)
   chosen-of [] id = refl
   chosen-of (k ∷ ids) id = elim (some-or-none (element_of stored k)) [
-    | inl none ↦ ap (λ (o : Option ElementValue). element_of (cons_option o (chosen ids)) id) none ∙ (elim (cases_Bool (bytes_eq id k)) [
-      | inl same ↦
-          let absent : element_of stored id ≡ None = ap (element_of stored) (bytes_eq-true id k same) ∙ none in
-          chosen-of ids id ∙ nothing-else (is_among ids id) (element_of stored id) absent ∙ sym (nothing-else (bytes_eq id k || is_among ids id) (element_of stored id) absent)
-      | inr other ↦ rw other (chosen-of ids id)
-    ])
+    | inl none ↦ ap (λ (o : Option ElementValue). element_of (cons_option o (chosen ids)) id) none
+        ∙ (elim (cases_Bool (bytes_eq id k)) [
+          | inl same ↦
+              let absent : element_of stored id ≡ None = ap (element_of stored) (bytes_eq-true id k same) ∙ none in
+              chosen-of ids id ∙ nothing-else (is_among ids id) (element_of stored id) absent
+              ∙ sym (nothing-else (bytes_eq id k || is_among ids id) (element_of stored id) absent)
+          | inr other ↦ rw other (chosen-of ids id)
+        ])
     | inr some ↦ ap (λ (o : Option ElementValue). element_of (cons_option o (chosen ids)) id) some.1 ∙ (
         let own : bytes_eq id k ≡ bytes_eq id some.0.id = ap (bytes_eq id) (own-id stored k some.0 some.1) in
         elim (cases_Bool (bytes_eq id k)) [
@@ -112,20 +128,25 @@ module _ (stored : List ElementValue) where
         ])
   ]
 
-  chosen-filtered : (ids : List (List ℕ)) → are_rising (ids_of stored) ≡ true → are_rising ids ≡ true → chosen ids ≡ filter (λ (e : ElementValue). is_among ids e.id) stored
+  chosen-filtered : (ids : List (List ℕ)) → are_rising (ids_of stored) ≡ true → are_rising ids ≡ true
+      → chosen ids ≡ filter (λ (e : ElementValue). is_among ids e.id) stored
   chosen-filtered ids ordered rising =
-      same_elements (chosen ids) (filter (λ (e : ElementValue). is_among ids e.id) stored) (chosen-rises None ids rising) (filter-rises (λ (e : ElementValue). is_among ids e.id) None stored ordered)
+      same_elements (chosen ids) (filter (λ (e : ElementValue). is_among ids e.id) stored)
+      (chosen-rises None ids rising) (filter-rises (λ (e : ElementValue). is_among ids e.id) None stored ordered)
       (λ id. chosen-of ids id ∙ sym (filtered-of (is_among ids) stored id))
 
   -- ---- along the ids
-  mapped-chosen : (f : ElementValue → Option ElementValue) (ids : List (List ℕ)) → filter_map (λ id. option_and_then f (element_of stored id)) ids ≡ filter_map f (chosen ids)
+  mapped-chosen : (f : ElementValue → Option ElementValue) (ids : List (List ℕ))
+      → filter_map (λ id. option_and_then f (element_of stored id)) ids ≡ filter_map f (chosen ids)
   mapped-chosen f [] = refl
   mapped-chosen f (id ∷ ids) = elim (some-or-none (element_of stored id)) [
     | inl none ↦ rw none (mapped-chosen f ids)
     | inr some ↦ rw some.1 (ap (cons_option (f some.0)) (mapped-chosen f ids))
   ]
 
-  found-chosen : (makes : ElementValue → ElementValue) (ids : List (List ℕ)) → option_map VersionFull (find (is_full_at stored makes) ids) ≡ option_map refusal_at (find (is_full makes) (chosen ids))
+  found-chosen : (makes : ElementValue → ElementValue) (ids : List (List ℕ))
+      → option_map VersionFull (find (is_full_at stored makes) ids)
+      ≡ option_map refusal_at (find (is_full makes) (chosen ids))
   found-chosen makes [] = refl
   found-chosen makes (id ∷ ids) = elim (some-or-none (element_of stored id)) [
     | inl none ↦ rw none (found-chosen makes ids)
@@ -136,7 +157,8 @@ module _ (stored : List ElementValue) where
   ]
 
 -- ---- what makes no difference is passed over
-passed-mapped : (f : ElementValue → Option ElementValue) (p : ElementValue → Bool) (es : List ElementValue) → ((e : ElementValue) → Contains es e → p e ≡ false → f e ≡ None) → filter_map f (filter p es) ≡ filter_map f es
+passed-mapped : (f : ElementValue → Option ElementValue) (p : ElementValue → Bool) (es : List ElementValue)
+    → ((e : ElementValue) → Contains es e → p e ≡ false → f e ≡ None) → filter_map f (filter p es) ≡ filter_map f es
 passed-mapped f p [] none = refl
 passed-mapped f p (e ∷ es) none =
     let later = passed-mapped f p es (λ d c. none d (Contains-cons e es d c)) in
@@ -145,7 +167,8 @@ passed-mapped f p (e ∷ es) none =
       | inr fails ↦ rw (fails, none e (Contains-head e es) fails) later
     ]
 
-passed-found : (q p : ElementValue → Bool) (es : List ElementValue) → ((e : ElementValue) → Contains es e → p e ≡ false → q e ≡ false) → find q (filter p es) ≡ find q es
+passed-found : (q p : ElementValue → Bool) (es : List ElementValue)
+    → ((e : ElementValue) → Contains es e → p e ≡ false → q e ≡ false) → find q (filter p es) ≡ find q es
 passed-found q p [] none = refl
 passed-found q p (e ∷ es) none =
     let later = passed-found q p es (λ d c. none d (Contains-cons e es d c)) in
@@ -158,10 +181,13 @@ passed-found q p (e ∷ es) none =
     ]
 
 -- ---- an effect that leaves the others as they are
-module _ (makes : ElementValue → ElementValue) (time nonce : ℕ) (stored : List ElementValue) (ids : BTreeSet (List ℕ)) (ordered : are_rising (ids_of stored) ≡ true) (sorted : IsStrictlySortedBy (slice_cmp nat_cmp) ids.keys) (others : LeavesOthers makes stored ids) where
+module _ (makes : ElementValue → ElementValue) (time nonce : ℕ) (stored : List ElementValue) (ids : BTreeSet (List ℕ))
+    (ordered : are_rising (ids_of stored) ≡ true) (sorted : IsStrictlySortedBy (slice_cmp nat_cmp) ids.keys)
+    (others : LeavesOthers makes stored ids) where
   unchanged : (e : ElementValue) → Contains stored e → is_among ids.keys e.id ≡ false → is_changed makes e ≡ false
   unchanged e c out = elim (cases_Bool (is_live e)) [
-    | inl live ↦ rw live (differs-not e (makes e) (sym (ap unstamped (others e c live (contains-among ids e.id ∙ out)))))
+    | inl live ↦ rw live (differs-not e (makes e)
+        (sym (ap unstamped (others e c live (contains-among ids e.id ∙ out)))))
     | inr dead ↦ rw dead refl
   ]
 
@@ -169,10 +195,14 @@ module _ (makes : ElementValue → ElementValue) (time nonce : ℕ) (stored : Li
   changes-walked =
       mapped-chosen stored (change_of makes time nonce) ids.keys
       ∙ ap (filter_map (change_of makes time nonce)) (chosen-filtered stored ids.keys ordered (set-rises ids sorted))
-      ∙ passed-mapped (change_of makes time nonce) (λ (e : ElementValue). is_among ids.keys e.id) stored (λ e c out. rw (unchanged e c out) refl)
+      ∙ passed-mapped (change_of makes time nonce) (λ (e : ElementValue). is_among ids.keys e.id) stored
+      (λ e c out. rw (unchanged e c out) refl)
 
-  pub full-walked : option_map VersionFull (find (is_full_at stored makes) ids.keys) ≡ option_map refusal_at (find (is_full makes) stored)
+  pub full-walked : option_map VersionFull (find (is_full_at stored makes) ids.keys)
+      ≡ option_map refusal_at (find (is_full makes) stored)
   full-walked =
       found-chosen stored makes ids.keys
-      ∙ ap (λ es. option_map refusal_at (find (is_full makes) es)) (chosen-filtered stored ids.keys ordered (set-rises ids sorted))
-      ∙ ap (option_map refusal_at) (passed-found (is_full makes) (λ (e : ElementValue). is_among ids.keys e.id) stored (λ e c out. rw (unchanged e c out) refl))
+      ∙ ap (λ es. option_map refusal_at (find (is_full makes) es))
+      (chosen-filtered stored ids.keys ordered (set-rises ids sorted))
+      ∙ ap (option_map refusal_at) (passed-found (is_full makes) (λ (e : ElementValue). is_among ids.keys e.id) stored
+      (λ e c out. rw (unchanged e c out) refl))

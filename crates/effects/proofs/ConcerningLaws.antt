@@ -56,9 +56,12 @@ flip : (a b : List ℕ) → bytes_eq a b ≡ false → bytes_eq b a ≡ false
 flip a b h = nat_list_eq_equiv.symm b a ∙ h
 
 -- what leaves the others of a set of which this holds leaves those of the result
-pub leaves-from : {E : Type 0} (r : Result Ids E) (P : Ids → Type 0) (given effect : Effect) (stored : List ElementValue) → given ≡ effect → ((ids : Ids) → P ids → LeavesOthers (made_by effect) stored ids)
+pub leaves-from : {E : Type 0} (r : Result Ids E) (P : Ids
+    → Type 0) (given effect : Effect) (stored : List ElementValue) → given ≡ effect
+    → ((ids : Ids) → P ids → LeavesOthers (made_by effect) stored ids)
     → IfOk r P → IfOk r (LeavesOthers (made_by given) stored)
-leaves-from (Ok ids) P given effect stored is leaves holds = subst (λ f. LeavesOthers (made_by f) stored ids) (sym is) (leaves ids holds)
+leaves-from (Ok ids) P given effect stored is leaves holds =
+    subst (λ f. LeavesOthers (made_by f) stored ids) (sym is) (leaves ids holds)
 leaves-from (Err e) P given effect stored is leaves holds = tt
 
 pub both-ok : {E : Type 0} (r : Result Ids E) (P Q : Ids → Type 0) → IfOk r P → IfOk r Q → IfOk r (λ ids. P ids × Q ids)
@@ -69,7 +72,8 @@ pub on_ok_both : {T E P Q R : Type 0} (r : Result T E) → (P → Q → R) → O
 on_ok_both (Ok x) f p q = f p q
 on_ok_both (Err e) f p q = tt
 
-settled-other : (keys : BTreeMap (List ℕ) (Option (List ℕ))) (e : ElementValue) → is_some (get (slice_cmp nat_cmp) keys e.id) ≡ false → settled_in keys e ≡ e
+settled-other : (keys : BTreeMap (List ℕ) (Option (List ℕ))) (e : ElementValue)
+    → is_some (get (slice_cmp nat_cmp) keys e.id) ≡ false → settled_in keys e ≡ e
 settled-other keys e none = by (get (slice_cmp nat_cmp) keys e.id) none
   where
     by : (o : Option (Option (List ℕ))) → is_some o ≡ false → record e { index = unwrap_or o e.index } ≡ e
@@ -77,32 +81,47 @@ settled-other keys e none = by (get (slice_cmp nat_cmp) keys e.id) none
     by (Some key) h = absurd (false≢true (sym h))
 
 module _ (stored : List ElementValue) (ids : Ids) where
-  pub others-settle : (keys : BTreeMap (List ℕ) (Option (List ℕ))) → ((id : List ℕ) → has ids id ≡ is_some (get (slice_cmp nat_cmp) keys id)) → LeavesOthers (made_by (effects.Settle keys)) stored ids
+  pub others-settle : (keys : BTreeMap (List ℕ) (Option (List ℕ)))
+      → ((id : List ℕ) → has ids id ≡ is_some (get (slice_cmp nat_cmp) keys id))
+      → LeavesOthers (made_by (effects.Settle keys)) stored ids
   others-settle keys are e c live out = settled-other keys e (sym (are e.id) ∙ out)
 
-  pub others-place : (keys : BTreeMap (List ℕ) (Option (List ℕ))) (id : List ℕ) (key : Option (List ℕ)) → ((other : List ℕ) → has ids other ≡ (bytes_eq other id || is_some (get (slice_cmp nat_cmp) keys other)))
+  pub others-place : (keys : BTreeMap (List ℕ) (Option (List ℕ))) (id : List ℕ) (key : Option (List ℕ))
+      → ((other : List ℕ) → has ids other ≡ (bytes_eq other id || is_some (get (slice_cmp nat_cmp) keys other)))
       → LeavesOthers (made_by (effects.Place keys id key)) stored ids
   others-place keys id key are e c live out =
       let parts = or_parts (bytes_eq e.id id) (is_some (get (slice_cmp nat_cmp) keys e.id)) (sym (are e.id) ∙ out) in
-      cond-false (bytes_eq id e.id) (record (settled_in keys e) { index = key }) (settled_in keys e) (flip e.id id parts.0) ∙ settled-other keys e parts.1
+      cond-false (bytes_eq id e.id) (record (settled_in keys e) { index = key }) (settled_in keys e)
+      (flip e.id id parts.0) ∙ settled-other keys e parts.1
 
-  pub others-set : (id member value : List ℕ) → ((other : List ℕ) → has ids other ≡ bytes_eq other id) → LeavesOthers (made_by (effects.Set id member value)) stored ids
-  others-set id member value are e c live out = cond-false (bytes_eq id e.id) (with_set_member member value e) e (flip e.id id (sym (are e.id) ∙ out))
+  pub others-set : (id member value : List ℕ) → ((other : List ℕ) → has ids other ≡ bytes_eq other id)
+      → LeavesOthers (made_by (effects.Set id member value)) stored ids
+  others-set id member value are e c live out =
+      cond-false (bytes_eq id e.id) (with_set_member member value e) e (flip e.id id (sym (are e.id) ∙ out))
 
-  pub others-link : (link : Link) → ((other : List ℕ) → has ids other ≡ (is_id other link.old || (is_id other (target_of link.binding) || bytes_eq other link.arrow))) → LeavesOthers (made_by (effects.Link link)) stored ids
+  pub others-link : (link : Link) → ((other : List ℕ) → has ids other
+      ≡ (is_id other link.old || (is_id other (target_of link.binding) || bytes_eq other link.arrow)))
+      → LeavesOthers (made_by (effects.Link link)) stored ids
   others-link link are e c live out =
-      let first = or_parts (is_id e.id link.old) (is_id e.id (target_of link.binding) || bytes_eq e.id link.arrow) (sym (are e.id) ∙ out) in
+      let first = or_parts (is_id e.id link.old) (is_id e.id (target_of link.binding) || bytes_eq e.id link.arrow)
+      (sym (are e.id) ∙ out) in
       let second = or_parts (is_id e.id (target_of link.binding)) (bytes_eq e.id link.arrow) first.1 in
       let ended : with_end_of link.arrow link.side link.binding e ≡ e =
-      cond-false (bytes_eq link.arrow e.id && is_arrow e.kind) (with_end link.side link.binding e) e (and_left (bytes_eq link.arrow e.id) (is_arrow e.kind) (flip e.id link.arrow second.1)) in
+      cond-false (bytes_eq link.arrow e.id && is_arrow e.kind) (with_end link.side link.binding e) e
+      (and_left (bytes_eq link.arrow e.id) (is_arrow e.kind) (flip e.id link.arrow second.1)) in
       ap (λ (d : ElementValue). unlisted link.old link.entry (listed (target_of link.binding) link.entry d)) ended
-      ∙ ap (unlisted link.old link.entry) (cond-false (is_id e.id (target_of link.binding)) (record e { bound = with_listing_entry link.entry e.bound }) e second.0)
+      ∙ ap (unlisted link.old link.entry)
+      (cond-false (is_id e.id (target_of link.binding)) (record e { bound = with_listing_entry link.entry e.bound })
+      e second.0)
       ∙ cond-false (is_id e.id link.old) (record e { bound = without_listing_entry link.entry e.bound }) e first.0
 
-  pub others-unlabel : (text : List ℕ) (old : Option (List ℕ)) (entry : BoundRef) → ((other : List ℕ) → has ids other ≡ (is_id other old || bytes_eq other text)) → LeavesOthers (made_by (effects.Unlabel text old entry)) stored ids
+  pub others-unlabel : (text : List ℕ) (old : Option (List ℕ)) (entry : BoundRef)
+      → ((other : List ℕ) → has ids other ≡ (is_id other old || bytes_eq other text))
+      → LeavesOthers (made_by (effects.Unlabel text old entry)) stored ids
   others-unlabel text old entry are e c live out =
       let parts = or_parts (is_id e.id old) (bytes_eq e.id text) (sym (are e.id) ∙ out) in
-      ap (unlisted old entry) (cond-false (bytes_eq text e.id) (record e { container = None }) e (flip e.id text parts.1))
+      ap (unlisted old entry) (cond-false (bytes_eq text e.id) (record e { container = None }) e
+      (flip e.id text parts.1))
       ∙ cond-false (is_id e.id old) (record e { bound = without_listing_entry entry e.bound }) e parts.0
 
   module _ (set : Ids) (are : (id : List ℕ) → has ids id ≡ has set id) where
@@ -110,58 +129,76 @@ module _ (stored : List ElementValue) (ids : Ids) where
     others-frame frame e c live out = cond-false (has set e.id) (record e { frame = frame }) e (sym (are e.id) ∙ out)
 
     pub others-group : (group : List ℕ) → LeavesOthers (made_by (effects.Group set group)) stored ids
-    others-group group e c live out = cond-false (has set e.id) (record e { groups = with_group group e.groups }) e (sym (are e.id) ∙ out)
+    others-group group e c live out =
+        cond-false (has set e.id) (record e { groups = with_group group e.groups }) e (sym (are e.id) ∙ out)
 
     pub others-ungroup : (group : List ℕ) → LeavesOthers (made_by (effects.Ungroup set group)) stored ids
-    others-ungroup group e c live out = cond-false (has set e.id) (record e { groups = without_group group e.groups }) e (sym (are e.id) ∙ out)
+    others-ungroup group e c live out =
+        cond-false (has set e.id) (record e { groups = without_group group e.groups }) e (sym (are e.id) ∙ out)
 
   -- ---- names
   -- an element of no such id doesn't name one whose namers are among the ids
-  unnamed : (id : List ℕ) → HasNamers stored id ids → (e : ElementValue) → Contains stored e → is_live e ≡ true → has ids e.id ≡ false → names_id id e ≡ false
+  unnamed : (id : List ℕ) → HasNamers stored id ids → (e : ElementValue) → Contains stored e → is_live e ≡ true
+      → has ids e.id ≡ false → names_id id e ≡ false
   unnamed id namers e c live out = elim (cases_Bool (names_id id e)) [
     | inl names ↦ absurd (false≢true (sym out ∙ namers e c live names))
     | inr not ↦ not
   ]
 
-  pub others-label : (label : Label) → ((other : List ℕ) → has ids other ≡ false → (is_id other label.old || (bytes_eq other label.container || bytes_eq other label.text)) ≡ false) × HasNamers stored label.container ids
+  pub others-label : (label : Label) → ((other : List ℕ) → has ids other ≡ false
+      → (is_id other label.old || (bytes_eq other label.container || bytes_eq other label.text)) ≡ false)
+      × HasNamers stored label.container ids
       → LeavesOthers (made_by (effects.Label label)) stored ids
   others-label label are e c live out =
-      let first = or_parts (is_id e.id label.old) (bytes_eq e.id label.container || bytes_eq e.id label.text) (are.0 e.id out) in
+      let first = or_parts (is_id e.id label.old) (bytes_eq e.id label.container || bytes_eq e.id label.text)
+      (are.0 e.id out) in
       let second = or_parts (bytes_eq e.id label.container) (bytes_eq e.id label.text) first.1 in
       let names = unnamed label.container are.1 e c live out in
-      let half = or_parts (is_id label.container e.container || is_id label.container e.frame) (end_names label.container e.start_binding || end_names label.container e.end_binding) names in
+      let half = or_parts (is_id label.container e.container || is_id label.container e.frame)
+      (end_names label.container e.start_binding || end_names label.container e.end_binding) names in
       let held = or_parts (is_id label.container e.container) (is_id label.container e.frame) half.0 in
       let free : with_container_of label.text label.container e ≡ e =
-      cond-false (bytes_eq label.text e.id && is_text e.kind) (record e { container = Some label.container }) (if is_id label.container e.container then record e { container = None } else e)
+      cond-false (bytes_eq label.text e.id && is_text e.kind) (record e { container = Some label.container })
+      (if is_id label.container e.container then record e { container = None } else e)
       (and_left (bytes_eq label.text e.id) (is_text e.kind) (flip e.id label.text second.1))
       ∙ cond-false (is_id label.container e.container) (record e { container = None }) e held.0 in
       ap (λ (d : ElementValue). unlisted label.old label.entry (with_text_of label.text label.container d)) free
-      ∙ ap (unlisted label.old label.entry) (cond-false (bytes_eq label.container e.id) (record e { bound = with_text_alone label.text e.bound }) e (flip e.id label.container second.0))
+      ∙ ap (unlisted label.old label.entry)
+      (cond-false (bytes_eq label.container e.id) (record e { bound = with_text_alone label.text e.bound }) e
+      (flip e.id label.container second.0))
       ∙ cond-false (is_id e.id label.old) (record e { bound = without_listing_entry label.entry e.bound }) e first.0
 
 -- ---- what is deleted
-none-gone : (is_gone : List ℕ → Bool) (name : Option (List ℕ)) → ((id : List ℕ) → is_gone id ≡ true → is_id id name ≡ false) → is_some_that is_gone name ≡ false
+none-gone : (is_gone : List ℕ → Bool) (name : Option (List ℕ))
+    → ((id : List ℕ) → is_gone id ≡ true → is_id id name ≡ false) → is_some_that is_gone name ≡ false
 none-gone is_gone None other = refl
 none-gone is_gone (Some id) other = elim (cases_Bool (is_gone id)) [
   | inl gone ↦ absurd (false≢true (sym (other id gone) ∙ bytes_eq-same id))
   | inr not ↦ not
 ]
 
-none-passes : (p : BoundRef → Bool) (entries : List BoundRef) → ((entry : BoundRef) → Contains entries entry → p entry ≡ false) → list_any p entries ≡ false
+none-passes : (p : BoundRef → Bool) (entries : List BoundRef)
+    → ((entry : BoundRef) → Contains entries entry → p entry ≡ false) → list_any p entries ≡ false
 none-passes p [] none = refl
-none-passes p (entry ∷ entries) none = rw (none entry (Contains-head entry entries)) (none-passes p entries (λ other c. none other (Contains-cons entry entries other c)))
+none-passes p (entry ∷ entries) none =
+    rw (none entry (Contains-head entry entries))
+    (none-passes p entries (λ other c. none other (Contains-cons entry entries other c)))
 
 -- an arrow names what an end names, and a text its container
 end-named : (id : List ℕ) (e : ElementValue) → has_end_at id e ≡ true → names_id id e ≡ true
-end-named id e h = or_right (is_id id e.container || is_id id e.frame) (end_names id e.start_binding || end_names id e.end_binding) (and_parts (is_arrow e.kind) (end_names id e.start_binding || end_names id e.end_binding) h).1
+end-named id e h = or_right (is_id id e.container || is_id id e.frame) (end_names id e.start_binding
+    || end_names id e.end_binding) (and_parts (is_arrow e.kind) (end_names id e.start_binding
+    || end_names id e.end_binding) h).1
 
 container-named : (id : List ℕ) (e : ElementValue) → names_container id e ≡ true → names_id id e ≡ true
 container-named id e h =
     or_left (is_id id e.container || is_id id e.frame) (end_names id e.start_binding || end_names id e.end_binding)
     (or_left (is_id id e.container) (is_id id e.frame) (and_parts (is_text e.kind) (is_id id e.container) h).1)
 
-module _ (lookup : Lookup) (is : IsLookup lookup) (gone all : Ids) (deletes : (id : List ℕ) → has gone id ≡ true → is_live_id lookup.store.now.elements id ≡ true)
-    (own : (id : List ℕ) → has all id ≡ false → (has lookup.unsettled.now id || has gone id) ≡ false) (linked : HaveLinked lookup.store.now.elements lookup.shown.now gone.keys all) where
+module _ (lookup : Lookup) (is : IsLookup lookup) (gone all : Ids) (deletes : (id : List ℕ) → has gone id ≡ true
+    → is_live_id lookup.store.now.elements id ≡ true)
+    (own : (id : List ℕ) → has all id ≡ false → (has lookup.unsettled.now id || has gone id) ≡ false)
+    (linked : HaveLinked lookup.store.now.elements lookup.shown.now gone.keys all) where
   abbrev stored : List ElementValue
   stored = lookup.store.now.elements
 
@@ -177,36 +214,48 @@ module _ (lookup : Lookup) (is : IsLookup lookup) (gone all : Ids) (deletes : (i
     names-none id h = unnamed stored all id (linked.namers id (sym (contains-among gone id) ∙ h)) e c live out
 
     -- and lists none
-    listed-names : (entry : BoundRef) (s : ElementValue) → Contains e.bound entry → element_of lookup.shown.now entry.id ≡ Some s → names_id e.id s ≡ true
+    listed-names : (entry : BoundRef) (s : ElementValue) → Contains e.bound entry
+        → element_of lookup.shown.now entry.id ≡ Some s → names_id e.id s ≡ true
     listed-names entry s among there =
         let at' = find-Some (has_id entry.id) lookup.shown.now s there in
         let here = find-Some (has_id e.id) lookup.shown.now e seen in
-        by entry.role entry s (bytes_eq-true entry.id s.id at'.1) refl (list_any-from (same_listing_entry entry) e.bound entry among (same_listing_entry-same entry)) at'.0 here.0
+        by entry.role entry s (bytes_eq-true entry.id s.id at'.1) refl
+        (list_any-from (same_listing_entry entry) e.bound entry among (same_listing_entry-same entry)) at'.0 here.0
       where
-        by : (role : Role) (entry : BoundRef) (s : ElementValue) → entry.id ≡ s.id → entry.role ≡ role → lists e.bound entry ≡ true → Contains lookup.shown.now s → Contains lookup.shown.now e → names_id e.id s ≡ true
+        by : (role : Role) (entry : BoundRef) (s : ElementValue) → entry.id ≡ s.id → entry.role ≡ role
+            → lists e.bound entry ≡ true → Contains lookup.shown.now s → Contains lookup.shown.now e
+            → names_id e.id s ≡ true
         by roles.Arrow entry s same role' there cs ce =
-            end-named e.id s (is.settled.arrows s e cs ce ∙ subst (λ (o : BoundRef). lists e.bound o ≡ true) (λ i. record { id = same i; role = role' i }) there)
+            end-named e.id s (is.settled.arrows s e cs ce
+            ∙ subst (λ (o : BoundRef). lists e.bound o ≡ true) (λ i. record { id = same i; role = role' i }) there)
         by roles.Text entry s same role' there cs ce =
-            container-named e.id s (is.settled.texts s e cs ce ∙ subst (λ (o : BoundRef). lists e.bound o ≡ true) (λ i. record { id = same i; role = role' i }) there)
+            container-named e.id s (is.settled.texts s e cs ce
+            ∙ subst (λ (o : BoundRef). lists e.bound o ≡ true) (λ i. record { id = same i; role = role' i }) there)
 
     lists-none : (entry : BoundRef) → Contains e.bound entry → has gone entry.id ≡ false
     lists-none entry among = elim (cases_Bool (has gone entry.id)) [
       | inl h ↦
           let s = live-seen lookup is entry.id (deletes entry.id h) in
-          absurd (false≢true (sym out ∙ linked.named entry.id e.id s.0 (sym (contains-among gone entry.id) ∙ h) s.1 (listed-names entry s.0 among s.1)))
+          absurd (false≢true (sym out ∙ linked.named entry.id e.id s.0 (sym (contains-among gone entry.id)
+          ∙ h) s.1 (listed-names entry s.0 among s.1)))
       | inr not ↦ not
     ]
 
-    half : (id : List ℕ) → has gone id ≡ true → ((is_id id e.container || is_id id e.frame) ≡ false) × ((end_names id e.start_binding || end_names id e.end_binding) ≡ false)
-    half id h = or_parts (is_id id e.container || is_id id e.frame) (end_names id e.start_binding || end_names id e.end_binding) (names-none id h)
+    half : (id : List ℕ) → has gone id ≡ true → ((is_id id e.container || is_id id e.frame) ≡ false)
+        × ((end_names id e.start_binding || end_names id e.end_binding) ≡ false)
+    half id h = or_parts (is_id id e.container || is_id id e.frame) (end_names id e.start_binding
+        || end_names id e.end_binding) (names-none id h)
 
     no-gone-names : has_gone_names (has gone) e ≡ false
     no-gone-names =
         rw (
           none-gone (has gone) e.frame (λ id h. (or_parts (is_id id e.container) (is_id id e.frame) (half id h).0).1),
-          none-gone (has gone) e.container (λ id h. (or_parts (is_id id e.container) (is_id id e.frame) (half id h).0).0),
-          none-gone (has gone) (target_of e.start_binding) (λ id h. (or_parts (end_names id e.start_binding) (end_names id e.end_binding) (half id h).1).0),
-          none-gone (has gone) (target_of e.end_binding) (λ id h. (or_parts (end_names id e.start_binding) (end_names id e.end_binding) (half id h).1).1),
+          none-gone (has gone) e.container (λ id h.
+              (or_parts (is_id id e.container) (is_id id e.frame) (half id h).0).0),
+          none-gone (has gone) (target_of e.start_binding)
+              (λ id h. (or_parts (end_names id e.start_binding) (end_names id e.end_binding) (half id h).1).0),
+          none-gone (has gone) (target_of e.end_binding)
+              (λ id h. (or_parts (end_names id e.start_binding) (end_names id e.end_binding) (half id h).1).1),
         )
         (none-passes (λ (entry : BoundRef). has gone entry.id) e.bound lists-none)
 
@@ -228,10 +277,13 @@ linked-none elements shown all = record {
   named = λ id other e among. absurd (false≢true among);
 }
 
-pub linked-one : (elements shown : List ElementValue) (id : List ℕ) (mid new : Ids) → HasNamers elements id mid → IsWithin mid new → ((e : ElementValue) (other : List ℕ) → element_of shown id ≡ Some e → names_id other e ≡ true → has new other ≡ true)
+pub linked-one : (elements shown : List ElementValue) (id : List ℕ) (mid new : Ids) → HasNamers elements id mid
+    → IsWithin mid new → ((e : ElementValue) (other : List ℕ) → element_of shown id ≡ Some e → names_id other e ≡ true
+    → has new other ≡ true)
     → HaveLinked elements shown (id ∷ []) new
 linked-one elements shown id mid new namers within named = record {
-  namers = λ k among e c live names. within e.id (namers e c live (ap (λ n. names_id n e) (sym (one_only k among)) ∙ names));
+  namers =
+      λ k among e c live names. within e.id (namers e c live (ap (λ n. names_id n e) (sym (one_only k among)) ∙ names));
   named = λ k other e among there names. named e other (ap (element_of shown) (sym (one_only k among)) ∙ there) names;
 }
   where
@@ -242,7 +294,9 @@ linked-one elements shown id mid new namers within named = record {
         by true h = refl
         by false h = h
 
-pub linked-cons : (elements shown : List ElementValue) (id : List ℕ) (ids : List (List ℕ)) (mid new : Ids) → HaveLinked elements shown (id ∷ []) mid → IsWithin mid new → HaveLinked elements shown ids new → HaveLinked elements shown (id ∷ ids) new
+pub linked-cons : (elements shown : List ElementValue) (id : List ℕ) (ids : List (List ℕ)) (mid new : Ids)
+    → HaveLinked elements shown (id ∷ []) mid → IsWithin mid new → HaveLinked elements shown ids new
+    → HaveLinked elements shown (id ∷ ids) new
 linked-cons elements shown id ids mid new first within later = record {
   namers = λ k among e c live names. elim (either k among) [
     | inl f ↦ within e.id (first.namers k f e c live names)
@@ -261,10 +315,12 @@ linked-cons elements shown id ids mid new first within later = record {
     ]
 
 -- one id that is added
-pub added-one : (old new : Ids) (id copy : List ℕ) → copy ≡ id → Updates (slice_cmp nat_cmp) old new copy true → (other : List ℕ) → has new other ≡ (bytes_eq other id || has old other)
+pub added-one : (old new : Ids) (id copy : List ℕ) → copy ≡ id → Updates (slice_cmp nat_cmp) old new copy true
+    → (other : List ℕ) → has new other ≡ (bytes_eq other id || has old other)
 added-one old new id copy is updates other =
     updates.0 other
-    ∙ ap (λ b. cond b true (has old other)) (sym (texts_ties copy other) ∙ nat_list_eq_equiv.symm copy other ∙ ap (bytes_eq other) is)
+    ∙ ap (λ b. cond b true (has old other)) (sym (texts_ties copy other) ∙ nat_list_eq_equiv.symm copy other
+    ∙ ap (bytes_eq other) is)
     ∙ cond-or (bytes_eq other id) (has old other)
   where
     cond-or : (a b : Bool) → cond a true b ≡ (a || b)
@@ -282,10 +338,13 @@ added-all true all h = h
 added-all false all h = h
 
 -- one more id
-pub added-more : (X : Type 0) (p : X → Bool) (xs : List X) (i : ℕ) (x : X) (old mid new : Bool) → i < length xs → x ≡ get_or xs i x → mid ≡ (list_any p (take i xs) || old) → new ≡ (p x || mid) → new ≡ (list_any p (take (i + 1) xs) || old)
+pub added-more : (X : Type 0) (p : X → Bool) (xs : List X) (i : ℕ) (x : X) (old mid new : Bool) → i < length xs
+    → x ≡ get_or xs i x → mid ≡ (list_any p (take i xs) || old) → new ≡ (p x || mid)
+    → new ≡ (list_any p (take (i + 1) xs) || old)
 added-more X p xs i x old mid new within there before more =
     more ∙ ap (λ m. p x || m) before ∙ turned (p x) (list_any p (take i xs)) old
-    ∙ ap (λ b. b || old) (sym (list_any-append p (take i xs) (x ∷ [])) ∙ ap (list_any p) (sym (take_more xs i x within ∙ ap (λ y. take i xs ++ y ∷ []) (sym there))))
+    ∙ ap (λ b. b || old) (sym (list_any-append p (take i xs) (x ∷ []))
+    ∙ ap (list_any p) (sym (take_more xs i x within ∙ ap (λ y. take i xs ++ y ∷ []) (sym there))))
   where
     turned : (a b c : Bool) → (a || (b || c)) ≡ ((b || (a || false)) || c)
     turned true true c = refl
@@ -301,24 +360,31 @@ all-left false true = refl
 all-left false false = refl
 
 -- the ids with keys are those of the map
-pub keyed-left : (new : Ids) (ids left : List (List ℕ)) (found : List ℕ → Bool) → new.keys ≡ [] → left ≡ ids → ((id : List ℕ) → found id ≡ list_any (eq_by_cmp (slice_cmp nat_cmp) id) ids) → (id : List ℕ) → (has new id || is_among left id) ≡ found id
+pub keyed-left : (new : Ids) (ids left : List (List ℕ)) (found : List ℕ → Bool) → new.keys ≡ [] → left ≡ ids
+    → ((id : List ℕ) → found id ≡ list_any (eq_by_cmp (slice_cmp nat_cmp) id) ids) → (id : List ℕ)
+    → (has new id || is_among left id) ≡ found id
 keyed-left new ids left found empty is are id =
     ap (λ b. b || is_among left id) (contains-among new id ∙ ap (λ ks. is_among ks id) empty)
     ∙ ap (λ ks. is_among ks id) is
     ∙ sym (are id ∙ ap (λ (h : List ℕ → Bool). list_any h ids) (λ i k. is_eq-slice_cmp id k i))
 
 -- who names an id is among the namers of the table
-namer-among : (live : List ElementValue) (rows : List LinkRow) (id : List ℕ) (e : ElementValue) → are_rising (ids_of live) ≡ true → HaveRowsOf live rows → Contains live e → names_id id e ≡ true
+namer-among : (live : List ElementValue) (rows : List LinkRow) (id : List ℕ) (e : ElementValue)
+    → are_rising (ids_of live) ≡ true → HaveRowsOf live rows → Contains live e → names_id id e ≡ true
     → is_among (map namer_of (filter (is_for id) rows)) e.id ≡ true
 namer-among live rows id e rising have c names =
-    list_any-map namer_of (bytes_eq e.id) (filter (is_for id) rows) ∙ list_any-filter (is_for id) (λ (row : LinkRow). bytes_eq e.id row.namer) rows
+    list_any-map namer_of (bytes_eq e.id) (filter (is_for id) rows)
+    ∙ list_any-filter (is_for id) (λ (row : LinkRow). bytes_eq e.id row.namer) rows
     ∙ have id e.id ∙ ap (λ o. option_map_or (names_id id) o false) (member None None live e rising c) ∙ names
 
 -- the set has the namers of an id, once those of the table are added
-pub namers-added : (lookup : Lookup) (is : IsLookup lookup) (id : List ℕ) (namers : List (List ℕ)) (mid new : Ids) → namers ≡ map namer_of (filter (is_for id) lookup.names.now.rows) → ((other : List ℕ) → has new other ≡ (is_among namers other || has mid other))
+pub namers-added : (lookup : Lookup) (is : IsLookup lookup) (id : List ℕ) (namers : List (List ℕ)) (mid new : Ids)
+    → namers ≡ map namer_of (filter (is_for id) lookup.names.now.rows)
+    → ((other : List ℕ) → has new other ≡ (is_among namers other || has mid other))
     → HasNamers lookup.store.now.elements id new
 namers-added lookup is id namers mid new exact are e c live names =
     are e.id
     ∙ or_left (is_among namers e.id) (has mid e.id)
     (ap (λ (l : List (List ℕ)). is_among l e.id) exact
-    ∙ namer-among (live_elements lookup.store.now.elements) lookup.names.now.rows id e (live-rise lookup is) is.table (Contains-filter is_live lookup.store.now.elements e c live) names)
+    ∙ namer-among (live_elements lookup.store.now.elements) lookup.names.now.rows id e (live-rise lookup is) is.table
+    (Contains-filter is_live lookup.store.now.elements e c live) names)

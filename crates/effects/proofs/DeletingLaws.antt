@@ -8,13 +8,15 @@ use Rattle.links.specs.Names.{target_of}
 use Rattle.effects.specs.Deleting.{kept_entries, deleted_from, has_gone_names}
 use Rattle.effects.specs.Naming.{is_some_that}
 
-all-kept : (is_gone : List ℕ → Bool) (entries : List BoundRef) → list_any (λ (entry : BoundRef). is_gone entry.id) entries ≡ false → kept_entries is_gone entries ≡ entries
+all-kept : (is_gone : List ℕ → Bool) (entries : List BoundRef)
+    → list_any (λ (entry : BoundRef). is_gone entry.id) entries ≡ false → kept_entries is_gone entries ≡ entries
 all-kept is_gone [] h = refl
 all-kept is_gone (entry ∷ entries) h =
     let parts = or_parts (is_gone entry.id) (list_any (λ (entry : BoundRef). is_gone entry.id) entries) h in
     rw parts.0 (ap (λ others. entry ∷ others) (all-kept is_gone entries parts.1))
 
-pub deleted_from-none : (is_gone : List ℕ → Bool) (e : ElementValue) → is_gone e.id ≡ false → has_gone_names is_gone e ≡ false → e ≡ deleted_from is_gone e
+pub deleted_from-none : (is_gone : List ℕ → Bool) (e : ElementValue) → is_gone e.id ≡ false
+    → has_gone_names is_gone e ≡ false → e ≡ deleted_from is_gone e
 deleted_from-none is_gone e own none =
     let entries = list_any (λ (entry : BoundRef). is_gone entry.id) e.bound in
     let f = or_parts (is_some_that is_gone e.frame) _ none in

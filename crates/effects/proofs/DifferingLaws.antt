@@ -64,7 +64,11 @@ role x y = (same x y, λ e. subst (λ z. same_role x z ≡ true) e (own x))
     same Text Text h = refl
 
 entry : Decided same_listing_entry
-entry x y = (same, λ e. subst (λ (z : BoundRef). same_listing_entry x z ≡ true) e (joined _ _ ((role x.role x.role).1 refl) ((bytes_decides x.id x.id).1 refl)))
+entry x y = (
+  same,
+  λ e. subst (λ (z : BoundRef). same_listing_entry x z ≡ true) e
+      (joined _ _ ((role x.role x.role).1 refl) ((bytes_decides x.id x.id).1 refl)),
+)
   where
     same : same_listing_entry x y ≡ true → x ≡ y
     same h =
@@ -74,7 +78,11 @@ entry x y = (same, λ e. subst (λ (z : BoundRef). same_listing_entry x z ≡ tr
         λ i. record { id = n i; role = r i }
 
 member : Decided same_member
-member x y = (same, λ e. subst (λ (z : Member). same_member x z ≡ true) e (joined _ _ ((bytes_decides x.name x.name).1 refl) ((bytes_decides x.value x.value).1 refl)))
+member x y = (
+  same,
+  λ e. subst (λ (z : Member). same_member x z ≡ true) e
+      (joined _ _ ((bytes_decides x.name x.name).1 refl) ((bytes_decides x.value x.value).1 refl)),
+)
   where
     same : same_member x y ≡ true → x ≡ y
     same h =
@@ -84,7 +92,11 @@ member x y = (same, λ e. subst (λ (z : Member). same_member x z ≡ true) e (j
         λ i. record { name = n i; value = v i }
 
 binding : Decided same_binding
-binding x y = (same, λ e. subst (λ (z : Binding). same_binding x z ≡ true) e (joined _ _ ((bytes_decides x.target x.target).1 refl) ((pointwise_decides member x.rest x.rest).1 refl)))
+binding x y = (
+  same,
+  λ e. subst (λ (z : Binding). same_binding x z ≡ true) e
+      (joined _ _ ((bytes_decides x.target x.target).1 refl) ((pointwise_decides member x.rest x.rest).1 refl)),
+)
   where
     same : same_binding x y ≡ true → x ≡ y
     same h =
@@ -98,7 +110,8 @@ not-true true h = refl
 not-true false h = absurd (false≢true (sym h))
 
 -- where nothing differs the two are the same but for the stamp
-pub same-where-not : (a b : ElementValue) → a.id ≡ b.id → a.kind ≡ b.kind → a.file ≡ b.file → differs a b ≡ false → unstamped a ≡ unstamped b
+pub same-where-not : (a b : ElementValue) → a.id ≡ b.id → a.kind ≡ b.kind → a.file ≡ b.file → differs a b ≡ false
+    → unstamped a ≡ unstamped b
 same-where-not a b id kind file h =
     let deleted = both (same_truth a.deleted b.deleted) _ (not-true _ h) in
     let index = both (option_eq bytes_eq a.index b.index) _ deleted.1 in
@@ -107,7 +120,8 @@ same-where-not a b id kind file h =
     let bound = both (pointwise same_listing_entry a.bound b.bound) _ frame.1 in
     let container = both (option_eq bytes_eq a.container b.container) _ bound.1 in
     let start = both (option_eq same_binding a.start_binding b.start_binding) _ container.1 in
-    let end' = both (option_eq same_binding a.end_binding b.end_binding) (pointwise same_member a.rest b.rest) start.1 in
+    let end' =
+    both (option_eq same_binding a.end_binding b.end_binding) (pointwise same_member a.rest b.rest) start.1 in
     let d = (truth a.deleted b.deleted).0 deleted.0 in
     let i' = (option bytes_eq bytes_decides a.index b.index).0 index.0 in
     let g = (pointwise_decides bytes_decides a.groups b.groups).0 groups.0 in

@@ -31,7 +31,8 @@ use Rattle.effects.proofs.PlacingLaws.{apart-at}
 
 -- ---- places
 -- the element at a place is the one of its id
-pub element-at-place : (es : List ElementValue) (i : ℕ) (e : ElementValue) → HaveDistinctIds es → slice_get es i ≡ Some e → element_of es e.id ≡ Some e
+pub element-at-place : (es : List ElementValue) (i : ℕ) (e : ElementValue) → HaveDistinctIds es
+    → slice_get es i ≡ Some e → element_of es e.id ≡ Some e
 unfolding IsDistinct
 element-at-place [] i e distinct at' = absurd (none-some e at')
 element-at-place (x ∷ es) zero e distinct at' =
@@ -40,23 +41,28 @@ element-at-place (x ∷ es) zero e distinct at' =
 element-at-place (x ∷ es) (suc i) e distinct at' =
     rw (nat_list_eq_equiv.symm e.id x.id ∙ apart-at x.id es i e distinct.0 at') (element-at-place es i e distinct.1 at')
 
-pub at-place : (es : List ElementValue) (i : ℕ) (id : List ℕ) → HaveDistinctIds es → IsAt es id i → slice_get es i ≡ element_of es id
+pub at-place : (es : List ElementValue) (i : ℕ) (id : List ℕ) → HaveDistinctIds es → IsAt es id i
+    → slice_get es i ≡ element_of es id
 at-place es i id distinct at' = by (slice_get es i) refl at'
   where
-    by : (o : Option ElementValue) → slice_get es i ≡ o → IsSomeAnd o (λ (e : ElementValue). e.id ≡ id) → slice_get es i ≡ element_of es id
+    by : (o : Option ElementValue) → slice_get es i ≡ o → IsSomeAnd o (λ (e : ElementValue). e.id ≡ id)
+        → slice_get es i ≡ element_of es id
     by None is h = absurd h
     by (Some e) is own = is ∙ sym (element-at-place es i e distinct is) ∙ ap (element_of es) own
 
 -- the element at a place that was found
-pub some-at : (es : List ElementValue) (id : List ℕ) (i : ℕ) → IsAt es id i → (e : ElementValue) × (slice_get es i ≡ Some e) × (e.id ≡ id)
+pub some-at : (es : List ElementValue) (id : List ℕ) (i : ℕ) → IsAt es id i → (e : ElementValue)
+    × (slice_get es i ≡ Some e) × (e.id ≡ id)
 some-at es id i at' = by (slice_get es i) refl at'
   where
-    by : (o : Option ElementValue) → slice_get es i ≡ o → IsSomeAnd o (λ (e : ElementValue). e.id ≡ id) → (e : ElementValue) × (slice_get es i ≡ Some e) × (e.id ≡ id)
+    by : (o : Option ElementValue) → slice_get es i ≡ o → IsSomeAnd o (λ (e : ElementValue). e.id ≡ id)
+        → (e : ElementValue) × (slice_get es i ≡ Some e) × (e.id ≡ id)
     by None is h = absurd h
     by (Some e) is own = (e, is, own)
 
 -- where no place was found there is no element of the id
-pub none-left : (es : List ElementValue) (id : List ℕ) (o : Option ℕ) → ((i : ℕ) → o ≡ Some i → ⊥) → IfNone o (element_of es id ≡ None) → element_of es id ≡ None
+pub none-left : (es : List ElementValue) (id : List ℕ) (o : Option ℕ) → ((i : ℕ) → o ≡ Some i → ⊥)
+    → IfNone o (element_of es id ≡ None) → element_of es id ≡ None
 none-left es id None none absent = absent
 none-left es id (Some i) none absent = absurd (none i refl)
 
@@ -69,30 +75,38 @@ module _ (p : ElementValue → Bool) where
     | inr f ↦ rw f (none-from (k + 1) es (rw f at none))
   ]
 
-  some-from : (k : ℕ) (es : List ElementValue) (i : ℕ) → position_from p k es ≡ Some i → (j : ℕ) × (i ≡ k + j) × (e : ElementValue) × (slice_get es j ≡ Some e) × (p e ≡ true)
+  some-from : (k : ℕ) (es : List ElementValue) (i : ℕ) → position_from p k es ≡ Some i → (j : ℕ) × (i ≡ k + j)
+      × (e : ElementValue) × (slice_get es j ≡ Some e) × (p e ≡ true)
   some-from k [] i is = absurd (none-some i is)
   some-from k (e ∷ es) i is = elim (cases_Bool (p e)) [
     | inl t ↦ (zero, omega (arith, same_Some k i (rw t at is)), e, refl, t)
-    | inr f ↦ let rest = some-from (k + 1) es i (rw f at is) in (suc rest.0, omega (arith, rest.1), rest.2, rest.3, rest.4)
+    | inr f ↦ let rest =
+        some-from (k + 1) es i (rw f at is) in (suc rest.0, omega (arith, rest.1), rest.2, rest.3, rest.4)
   ]
 
-pub first-found-at : (es : List ElementValue) (id : List ℕ) (o : Option ℕ) → o ≡ position (has_id id) es → IfSome o (IsAt es id)
+pub first-found-at : (es : List ElementValue) (id : List ℕ) (o : Option ℕ) → o ≡ position (has_id id) es
+    → IfSome o (IsAt es id)
 first-found-at es id None is = tt
 first-found-at es id (Some i) is =
     let there = some-from (has_id id) 0 es i (sym (is ∙ position_from-zero (has_id id) es)) in
     let place : i ≡ there.0 = omega (arith, there.1) in
-    at-some (λ (e : ElementValue). e.id ≡ id) (slice_get es i) there.2 (ap (slice_get es) place ∙ there.3) (sym (bytes_eq-true id there.2.id there.4))
+    at-some (λ (e : ElementValue). e.id ≡ id) (slice_get es i) there.2 (ap (slice_get es) place
+    ∙ there.3) (sym (bytes_eq-true id there.2.id there.4))
 
-pub first-absent : (es : List ElementValue) (id : List ℕ) (o : Option ℕ) → o ≡ position (has_id id) es → IfNone o (element_of es id ≡ None)
+pub first-absent : (es : List ElementValue) (id : List ℕ) (o : Option ℕ) → o ≡ position (has_id id) es
+    → IfNone o (element_of es id ≡ None)
 first-absent es id None is = none-from (has_id id) 0 es (sym (is ∙ position_from-zero (has_id id) es))
 first-absent es id (Some i) is = tt
 
 -- ---- bindable targets
-pub target-found : (es : List ElementValue) (id : List ℕ) → HaveDistinctIds es → option_map_or is_target (element_of es id) false ≡ names_target es (Some id)
+pub target-found : (es : List ElementValue) (id : List ℕ) → HaveDistinctIds es
+    → option_map_or is_target (element_of es id) false ≡ names_target es (Some id)
 unfolding IsDistinct
 target-found [] id distinct = refl
 target-found (e ∷ es) id distinct = elim (cases_Bool (bytes_eq id e.id)) [
-  | inl same ↦ rw same (or-nothing (is_target e) (list_any (λ target. has_id id target && is_target target) es) (no-other es (subst (λ k. AllByRecursion (λ other. bytes_eq k other ≡ false) (ids_of es)) (sym (bytes_eq-true id e.id same)) distinct.0)))
+  | inl same ↦ rw same (or-nothing (is_target e) (list_any (λ target. has_id id target && is_target target) es)
+      (no-other es (subst (λ k. AllByRecursion (λ other. bytes_eq k other ≡ false) (ids_of es))
+      (sym (bytes_eq-true id e.id same)) distinct.0)))
   | inr other ↦ rw other (target-found es id distinct.1)
 ]
   where
@@ -100,7 +114,8 @@ target-found (e ∷ es) id distinct = elim (cases_Bool (bytes_eq id e.id)) [
     or-nothing true b h = refl
     or-nothing false b h = sym h
 
-    no-other : (es : List ElementValue) → AllByRecursion (λ other. bytes_eq id other ≡ false) (ids_of es) → list_any (λ target. has_id id target && is_target target) es ≡ false
+    no-other : (es : List ElementValue) → AllByRecursion (λ other. bytes_eq id other ≡ false) (ids_of es)
+        → list_any (λ target. has_id id target && is_target target) es ≡ false
     no-other [] apart = refl
     no-other (e ∷ es) apart = rw apart.0 (no-other es apart.1)
 
@@ -120,14 +135,16 @@ module _ (lookup : Lookup) (is : IsLookup lookup) where
 
   -- what is shown has distinct ids
   pub seen-distinct : HaveDistinctIds seen
-  seen-distinct = IsDistinct-IsPermutation bytes_eq nat_list_eq_equiv.symm (ids_of live) (ids_of seen) is.ids (HaveDistinctIds-rising live live-rise)
+  seen-distinct = IsDistinct-IsPermutation bytes_eq nat_list_eq_equiv.symm (ids_of live) (ids_of seen) is.ids
+      (HaveDistinctIds-rising live live-rise)
 
   -- a live element is the one of its id
   pub live-own : (e : ElementValue) → Contains stored e → is_live e ≡ true → element_of live e.id ≡ Some e
   live-own e c alive = member None None live e live-rise (Contains-filter is_live stored e c alive)
 
   -- one that can't be unsettled is shown as it is stored
-  pub seen-as-stored : (e : ElementValue) → Contains stored e → is_live e ≡ true → contains (slice_cmp nat_cmp) lookup.unsettled.now e.id ≡ false → element_of seen e.id ≡ Some e
+  pub seen-as-stored : (e : ElementValue) → Contains stored e → is_live e ≡ true
+      → contains (slice_cmp nat_cmp) lookup.unsettled.now e.id ≡ false → element_of seen e.id ≡ Some e
   seen-as-stored e c alive out = is.others e.id out ∙ live-own e c alive
 
   some-among : (es : List ElementValue) (id : List ℕ) → is_among (ids_of es) id ≡ is_some (element_of es id)
@@ -138,9 +155,12 @@ module _ (lookup : Lookup) (is : IsLookup lookup) where
   live-seen id alive =
       let old = live-found stored id alive in
       let at' = find-Some (has_id id) stored old.0 old.1 in
-      let own : element_of live id ≡ Some old.0 = ap (element_of live) (bytes_eq-true id old.0.id at'.1) ∙ live-own old.0 at'.0 old.2 in
+      let own : element_of live id ≡ Some old.0 =
+      ap (element_of live) (bytes_eq-true id old.0.id at'.1) ∙ live-own old.0 at'.0 old.2 in
       let among = among-Contains (ids_of live) id (some-among live id ∙ ap is_some own) in
-      let there = sym (some-among seen id) ∙ list_any-from (bytes_eq id) (ids_of seen) id (Contains-permutation (ids_of live) (ids_of seen) id is.ids among) (bytes_eq-same id) in
+      let there = sym (some-among seen id)
+      ∙ list_any-from (bytes_eq id) (ids_of seen) id (Contains-permutation (ids_of live) (ids_of seen) id is.ids
+      among) (bytes_eq-same id) in
       elim (some-or-none (element_of seen id)) [
         | inl none ↦ absurd (false≢true (sym (ap is_some none) ∙ there))
         | inr some ↦ (some.0, some.1)

@@ -12,7 +12,8 @@ use Rattle.effects.specs.declared.refusal.Refusal.TheVariants.{WrongKind}
 use Rattle.effects.specs.Refusals.{unless_right}
 
 -- what holds of a fault makes another fact hold of it
-pub OnFault-weaker : (P Q : Refusal → Type 0) (stop : Stop Refusal) → ((refusal : Refusal) → P refusal → Q refusal) → OnFault stop P → OnFault stop Q
+pub OnFault-weaker : (P Q : Refusal → Type 0) (stop : Stop Refusal) → ((refusal : Refusal) → P refusal → Q refusal)
+    → OnFault stop P → OnFault stop Q
 OnFault-weaker P Q (Fault refusal) h p = h refusal p
 OnFault-weaker P Q Memory h p = tt
 
@@ -29,16 +30,21 @@ module _ {X Y : Type 0} (p : X → Bool) (f : X → Y) where
   ]
 
   -- none so far, and none in the next item
-  pub first-more : (xs : List X) (i : ℕ) (x : X) → i < length xs → x ≡ get_or xs i x → first (take i xs) ≡ None → first (x ∷ []) ≡ None → first (take (i + 1) xs) ≡ None
+  pub first-more : (xs : List X) (i : ℕ) (x : X) → i < length xs → x ≡ get_or xs i x → first (take i xs) ≡ None
+      → first (x ∷ []) ≡ None → first (take (i + 1) xs) ≡ None
   first-more xs i x within is none more =
-      ap first (take_more xs i x within ∙ ap (λ y. take i xs ++ y ∷ []) (sym is)) ∙ first-append (take i xs) (x ∷ []) ∙ rw none more
+      ap first (take_more xs i x within ∙ ap (λ y. take i xs ++ y ∷ []) (sym is)) ∙ first-append (take i xs) (x ∷ [])
+      ∙ rw none more
 
   -- none so far, and the next item passes
-  pub first-found : (xs : List X) (i : ℕ) (x : X) (y : Y) → i < length xs → x ≡ get_or xs i x → first (take i xs) ≡ None → first (x ∷ []) ≡ Some y → first xs ≡ Some y
+  pub first-found : (xs : List X) (i : ℕ) (x : X) (y : Y) → i < length xs → x ≡ get_or xs i x → first (take i xs) ≡ None
+      → first (x ∷ []) ≡ Some y → first xs ≡ Some y
   first-found xs i x y within is none found =
       let split : xs ≡ take i xs ++ ((x ∷ []) ++ drop (suc i) xs) =
-      sym (take-append-drop i xs) ∙ ap (λ ys. take i xs ++ ys) (drop-cons xs i x within ∙ ap (λ z. z ∷ drop (suc i) xs) (sym is)) in
-      ap first split ∙ first-append (take i xs) ((x ∷ []) ++ drop (suc i) xs) ∙ ap (λ o. option_or o (first ((x ∷ []) ++ drop (suc i) xs))) none
+      sym (take-append-drop i xs) ∙ ap (λ ys. take i xs ++ ys) (drop-cons xs i x within
+      ∙ ap (λ z. z ∷ drop (suc i) xs) (sym is)) in
+      ap first split ∙ first-append (take i xs) ((x ∷ []) ++ drop (suc i) xs)
+      ∙ ap (λ o. option_or o (first ((x ∷ []) ++ drop (suc i) xs))) none
       ∙ first-append (x ∷ []) (drop (suc i) xs) ∙ ap (λ o. option_or o (first (drop (suc i) xs))) found
 
 -- an id of a wrong kind is the first of itself alone

@@ -25,20 +25,24 @@ use Rattle.effects.proofs.OutcomeLaws.{or-none, none-missing, stored_after-kept,
 
 -- ---- ids
 -- the element of an id has it
-pub own-id : (elements : List ElementValue) (id : List ℕ) (e : ElementValue) → element_of elements id ≡ Some e → id ≡ e.id
+pub own-id : (elements : List ElementValue) (id : List ℕ) (e : ElementValue) → element_of elements id ≡ Some e
+    → id ≡ e.id
 own-id elements id e found = same_id id e (find-Some (has_id id) elements e found).1
 
 pub among-Contains : (ids : List (List ℕ)) (id : List ℕ) → is_among ids id ≡ true → Contains ids id
 among-Contains ids id h = Contains-from_any bytes_eq-true id ids h
 
 -- what is made of an element that is among the ids, and of one that isn't
-pub chosen : (ids : List (List ℕ)) (id own : List ℕ) (x y : ElementValue) → id ≡ own → is_among ids id ≡ true → (if is_among ids own then x else y) ≡ x
+pub chosen : (ids : List (List ℕ)) (id own : List ℕ) (x y : ElementValue) → id ≡ own → is_among ids id ≡ true
+    → (if is_among ids own then x else y) ≡ x
 chosen ids id own x y is h = cond-true (is_among ids own) x y (subst (λ i. is_among ids i ≡ true) is h)
 
-pub passed : (ids : List (List ℕ)) (id own : List ℕ) (x y : ElementValue) → id ≡ own → is_among ids id ≡ false → (if is_among ids own then x else y) ≡ y
+pub passed : (ids : List (List ℕ)) (id own : List ℕ) (x y : ElementValue) → id ≡ own → is_among ids id ≡ false
+    → (if is_among ids own then x else y) ≡ y
 passed ids id own x y is h = cond-false (is_among ids own) x y (subst (λ i. is_among ids i ≡ false) is h)
 
-pub live-found : (stored : List ElementValue) (id : List ℕ) → is_live_id stored id ≡ true → (old : ElementValue) × (element_of stored id ≡ Some old) × (is_live old ≡ true)
+pub live-found : (stored : List ElementValue) (id : List ℕ) → is_live_id stored id ≡ true → (old : ElementValue)
+    × (element_of stored id ≡ Some old) × (is_live old ≡ true)
 live-found stored id h = elim (some-or-none (element_of stored id)) [
   | inl none ↦ absurd (false≢true (sym (ap (λ (o : Option ElementValue). option_map_or is_live o false) none) ∙ h))
   | inr some ↦ (some.0, some.1, sym (ap (λ (o : Option ElementValue). option_map_or is_live o false) some.1) ∙ h)
@@ -48,40 +52,49 @@ pub at-some : {X : Type 0} (P : X → Type 0) (o : Option X) (x : X) → o ≡ S
 at-some P o x is p = subst (λ o. IsSomeAnd o P) (sym is) p
 
 -- ---- what is named is live; what stays, and what becomes of elements
-module _ (stored shown : List ElementValue) (command : Command) (time nonce : ℕ) (given : List ElementValue) (told : outcome stored shown command time nonce ≡ Ok given) where
-  pub named-live : (id : List ℕ) → Contains (command_ids command) id → (old : ElementValue) × (element_of stored id ≡ Some old) × (is_live old ≡ true)
+module _ (stored shown : List ElementValue) (command : Command) (time nonce : ℕ) (given : List ElementValue)
+    (told : outcome stored shown command time nonce ≡ Ok given) where
+  pub named-live : (id : List ℕ) → Contains (command_ids command) id → (old : ElementValue)
+      × (element_of stored id ≡ Some old) × (is_live old ≡ true)
   named-live id c =
       let missing' = (λ (id : List ℕ). not (is_live_id stored id)) in
       let none = unmapped NoElement (find missing' (command_ids command))
-      (or-none (first_missing stored (command_ids command)) (own_spot command) (none-missing stored shown command time nonce given told)).0 in
+      (or-none (first_missing stored (command_ids command)) (own_spot command)
+      (none-missing stored shown command time nonce given told)).0 in
       live-found stored id
       (not-false (is_live_id stored id)
-      (list_any-false missing' (command_ids command) id (sym (is_some-find missing' (command_ids command)) ∙ ap is_some none) c))
+      (list_any-false missing' (command_ids command) id (sym (is_some-find missing' (command_ids command))
+      ∙ ap is_some none) c))
 
   module _ (ordered : are_rising (ids_of stored) ≡ true) where
     abbrev makes : ElementValue → ElementValue
     makes = effect stored shown command
 
     -- what the command leaves as it is stays, its stamp too
-    pub stays : created shown command time nonce ≡ [] → (id : List ℕ) → ((old : ElementValue) → element_of stored id ≡ Some old → makes old ≡ old) → Stays stored given id
+    pub stays : created shown command time nonce ≡ [] → (id : List ℕ)
+        → ((old : ElementValue) → element_of stored id ≡ Some old → makes old ≡ old) → Stays stored given id
     stays nothing id same = elim (some-or-none (element_of stored id)) [
-      | inl none ↦ stored_after-kept stored given id (not-created stored shown command time nonce given told ordered id none nothing)
+      | inl none ↦ stored_after-kept stored given id (not-created stored shown command time nonce given told ordered id
+          none nothing)
       | inr some ↦ stored_after-kept stored given id
           (not-given stored shown command time nonce given told ordered id some.0 some.1
-          (λ live differ. both_ways (differs some.0 (makes some.0)) (differs-not some.0 (makes some.0) (ap unstamped (sym (same some.0 some.1)))) differ))
+          (λ live differ. both_ways (differs some.0 (makes some.0))
+          (differs-not some.0 (makes some.0) (ap unstamped (sym (same some.0 some.1)))) differ))
     ]
 
     -- of a live element what the command makes of it is stored, but for the stamp
-    pub of-live : (P : ElementValue → Type 0) (id : List ℕ) (old : ElementValue) → element_of stored id ≡ Some old → is_live old ≡ true → ((e : ElementValue) → unstamped e ≡ unstamped (makes old) → P e)
+    pub of-live : (P : ElementValue → Type 0) (id : List ℕ) (old : ElementValue) → element_of stored id ≡ Some old
+        → is_live old ≡ true → ((e : ElementValue) → unstamped e ≡ unstamped (makes old) → P e)
         → IsSomeAnd (stored_after stored given id) P
     of-live P id old found live holds =
         let new = after-live stored shown command time nonce given told ordered id old found live in
         at-some P (stored_after stored given id) new.0 new.1 (holds new.0 new.2)
 
-    -- of what is stored then of a named id this holds, if it holds of all that the command makes of the live element, but
-    -- for the stamp
+    -- of what is stored then of a named id this holds, if it holds of all that the command makes of the live element,
+    -- but for the stamp
     pub named-after : (P : ElementValue → Type 0) (id : List ℕ) → Contains (command_ids command) id
-        → ((old : ElementValue) → element_of stored id ≡ Some old → is_live old ≡ true → (e : ElementValue) → unstamped e ≡ unstamped (makes old) → P e)
+        → ((old : ElementValue) → element_of stored id ≡ Some old → is_live old ≡ true → (e : ElementValue)
+        → unstamped e ≡ unstamped (makes old) → P e)
         → IsSomeAnd (stored_after stored given id) P
     named-after P id c holds =
         let old = named-live id c in
@@ -89,24 +102,31 @@ module _ (stored shown : List ElementValue) (command : Command) (time nonce : �
 
     -- and a named one becomes that
     pub becomes : (P : ElementValue → ElementValue → Type 0) (id : List ℕ) → Contains (command_ids command) id
-        → ((old e : ElementValue) → element_of stored id ≡ Some old → unstamped e ≡ unstamped (makes old) → P old e) → Becomes stored given id P
+        → ((old e : ElementValue) → element_of stored id ≡ Some old → unstamped e ≡ unstamped (makes old) → P old e)
+        → Becomes stored given id P
     becomes P id c holds =
         let old = named-live id c in
-        at-some (λ (o : ElementValue). IsSomeAnd (stored_after stored given id) (λ (e : ElementValue). P o e)) (element_of stored id) old.0 old.1
+        at-some (λ (o : ElementValue). IsSomeAnd (stored_after stored given id) (λ (e : ElementValue). P o e))
+        (element_of stored id) old.0 old.1
         (of-live (P old.0) id old.0 old.1 old.2 (λ e same. holds old.0 e old.1 same))
 
     -- and a live element that is stored then was live before, or is new
-    pub live-before : created shown command time nonce ≡ [] → (id : List ℕ) (e : ElementValue) → stored_after stored given id ≡ Some e → is_live e ≡ true
+    pub live-before : created shown command time nonce ≡ [] → (id : List ℕ) (e : ElementValue)
+        → stored_after stored given id ≡ Some e → is_live e ≡ true
         → (old : ElementValue) × (element_of stored id ≡ Some old) × (unstamped e ≡ unstamped (makes old))
     live-before nothing id e is live = elim (some-or-none (element_of stored id)) [
       | inl none ↦ absurd (none-some e
-          (sym none ∙ sym (stored_after-kept stored given id (not-created stored shown command time nonce given told ordered id none nothing)) ∙ is))
+          (sym none
+          ∙ sym (stored_after-kept stored given id (not-created stored shown command time nonce given told ordered
+          id none nothing)) ∙ is))
       | inr some ↦ elim (cases_Bool (is_live some.0)) [
         | inl alive ↦
             let new = after-live stored shown command time nonce given told ordered id some.0 some.1 alive in
             (some.0, some.1, ap unstamped (sym (same_Some new.0 e (sym new.1 ∙ is))) ∙ new.2)
         | inr dead ↦ absurd
-            (let same = same_Some some.0 e (sym (after-dead stored shown command time nonce given told ordered id some.0 some.1 dead) ∙ is) in
+            (let same =
+            same_Some some.0 e (sym (after-dead stored shown command time nonce given told ordered id some.0 some.1
+            dead) ∙ is) in
             false≢true (sym dead ∙ ap is_live same ∙ live))
       ]
     ]

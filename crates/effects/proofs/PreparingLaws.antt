@@ -29,11 +29,13 @@ use Rattle.effects.proofs.CreatedLaws.{unmapped}
 use Rattle.effects.proofs.FindingLaws.{seen-as-stored}
 use Rattle.effects.proofs.NamedLaws.{among-Contains}
 
-pub HasIds-more : (old new : BTreeSet (List ℕ)) (ids : List (List ℕ)) (id copy : List ℕ) → HasIds old ids → copy ≡ id → Updates (slice_cmp nat_cmp) old new copy true → HasIds new (ids ++ id ∷ [])
+pub HasIds-more : (old new : BTreeSet (List ℕ)) (ids : List (List ℕ)) (id copy : List ℕ) → HasIds old ids → copy ≡ id
+    → Updates (slice_cmp nat_cmp) old new copy true → HasIds new (ids ++ id ∷ [])
 HasIds-more old new ids id copy has is updates other =
     let same = bytes_eq other id in
     updates.0 other
-    ∙ ap (λ b. cond b true (contains (slice_cmp nat_cmp) old other)) (sym (texts_ties copy other) ∙ nat_list_eq_equiv.symm copy other ∙ ap (bytes_eq other) is)
+    ∙ ap (λ b. cond b true (contains (slice_cmp nat_cmp) old other)) (sym (texts_ties copy other)
+    ∙ nat_list_eq_equiv.symm copy other ∙ ap (bytes_eq other) is)
     ∙ ap (cond same true) (has other)
     ∙ joined same (is_among ids other)
     ∙ sym (list_any-append (bytes_eq other) ids (id ∷ []))
@@ -48,64 +50,91 @@ or-default : {X Y : Type 0} (f : X → Y) (o : Option X) (d : Y) → unwrap_or (
 or-default f None d = refl
 or-default f (Some x) d = refl
 
-with_view_key-at : (keys : BTreeMap (List ℕ) (Option (List ℕ))) (shown : List ElementValue) (e : ElementValue) → get (slice_cmp nat_cmp) keys e.id ≡ option_map index_of (element_of shown e.id) → settled_in keys e ≡ with_view_key shown e
+with_view_key-at : (keys : BTreeMap (List ℕ) (Option (List ℕ))) (shown : List ElementValue) (e : ElementValue)
+    → get (slice_cmp nat_cmp) keys e.id ≡ option_map index_of (element_of shown e.id)
+    → settled_in keys e ≡ with_view_key shown e
 with_view_key-at keys shown e has =
-    ap (λ index. record e { index = index }) (ap (λ o. unwrap_or o e.index) has ∙ or-default index_of (element_of shown e.id) e.index)
+    ap (λ index. record e { index = index }) (ap (λ o. unwrap_or o e.index) has
+    ∙ or-default index_of (element_of shown e.id) e.index)
 
 -- ---- where keys are settled
 module _ (lookup : Lookup) (is : IsLookup lookup) (keys : BTreeMap (List ℕ) (Option (List ℕ))) where
   -- the keys of what may be unsettled settle each live element
-  pub settled-view : HasKeys keys (elements_among lookup.unsettled.now lookup.shown.now) → (e : ElementValue) → Contains lookup.store.now.elements e → is_live e ≡ true → settled_in keys e ≡ with_view_key lookup.shown.now e
+  pub settled-view : HasKeys keys (elements_among lookup.unsettled.now lookup.shown.now) → (e : ElementValue)
+      → Contains lookup.store.now.elements e → is_live e ≡ true → settled_in keys e ≡ with_view_key lookup.shown.now e
   settled-view has e c live =
       let found = filtered-of (contains (slice_cmp nat_cmp) lookup.unsettled.now) lookup.shown.now e.id in
       elim (cases_Bool (contains (slice_cmp nat_cmp) lookup.unsettled.now e.id)) [
-        | inl among ↦ with_view_key-at keys lookup.shown.now e (has e.id ∙ ap (option_map index_of) (found ∙ cond-true (contains (slice_cmp nat_cmp) lookup.unsettled.now e.id) (element_of lookup.shown.now e.id) None among))
+        | inl among ↦ with_view_key-at keys lookup.shown.now e (has e.id
+            ∙ ap (option_map index_of) (found
+            ∙ cond-true (contains (slice_cmp nat_cmp) lookup.unsettled.now e.id) (element_of lookup.shown.now e.id) None
+            among))
         | inr other ↦
-            ap (λ (o : Option (Option (List ℕ))). record e { index = unwrap_or o e.index }) (has e.id ∙ ap (option_map index_of) (found ∙ cond-false (contains (slice_cmp nat_cmp) lookup.unsettled.now e.id) (element_of lookup.shown.now e.id) None other))
-            ∙ sym (ap (λ (o : Option ElementValue). record e { index = option_map_or index_of o e.index }) (seen-as-stored lookup is e c live other))
+            ap (λ (o : Option (Option (List ℕ))). record e { index = unwrap_or o e.index }) (has e.id
+            ∙ ap (option_map index_of) (found
+            ∙ cond-false (contains (slice_cmp nat_cmp) lookup.unsettled.now e.id) (element_of lookup.shown.now e.id)
+            None other))
+            ∙ sym (ap (λ (o : Option ElementValue). record e { index = option_map_or index_of o e.index })
+            (seen-as-stored lookup is e c live other))
       ]
 
   -- and none are needed where nothing is copied
-  pub settled-for : (originals : List ElementValue) → HasKeys keys (settled_for originals (elements_among lookup.unsettled.now lookup.shown.now))
-      → (e : ElementValue) → Contains lookup.store.now.elements e → is_live e ≡ true → settled_in keys e ≡ with_view_key (settled_for originals lookup.shown.now) e
+  pub settled-for : (originals : List ElementValue)
+      → HasKeys keys (settled_for originals (elements_among lookup.unsettled.now lookup.shown.now))
+      → (e : ElementValue) → Contains lookup.store.now.elements e → is_live e ≡ true
+      → settled_in keys e ≡ with_view_key (settled_for originals lookup.shown.now) e
   settled-for [] has e c live = with_view_key-at keys [] e (has e.id)
   settled-for (o ∷ originals) has e c live = settled-view has e c live
 
-pub deleted-among : (set : BTreeSet (List ℕ)) (ids : List (List ℕ)) (e : ElementValue) → HasIds set ids → deleted_from (contains (slice_cmp nat_cmp) set) e ≡ deleted_from (is_among ids) e
+pub deleted-among : (set : BTreeSet (List ℕ)) (ids : List (List ℕ)) (e : ElementValue) → HasIds set ids
+    → deleted_from (contains (slice_cmp nat_cmp) set) e ≡ deleted_from (is_among ids) e
 deleted-among set ids e has = ap (λ is_gone. deleted_from is_gone e) (λ i id. has id i)
 
-pub changed-among : (set : BTreeSet (List ℕ)) (ids : List (List ℕ)) (e new : ElementValue) → HasIds set ids → (if contains (slice_cmp nat_cmp) set e.id then new else e) ≡ (if is_among ids e.id then new else e)
+pub changed-among : (set : BTreeSet (List ℕ)) (ids : List (List ℕ)) (e new : ElementValue) → HasIds set ids
+    → (if contains (slice_cmp nat_cmp) set e.id then new else e) ≡ (if is_among ids e.id then new else e)
 changed-among set ids e new has = ap (λ b. if b then new else e) (has e.id)
 
 -- none of the ids that become deleted is missing
-pub deleted-live : (set : BTreeSet (List ℕ)) (ids : List (List ℕ)) (stored : List ElementValue) → HasIds set ids → first_missing stored ids ≡ None → (id : List ℕ) → contains (slice_cmp nat_cmp) set id ≡ true → is_live_id stored id ≡ true
+pub deleted-live : (set : BTreeSet (List ℕ)) (ids : List (List ℕ)) (stored : List ElementValue) → HasIds set ids
+    → first_missing stored ids ≡ None → (id : List ℕ) → contains (slice_cmp nat_cmp) set id ≡ true
+    → is_live_id stored id ≡ true
 deleted-live set ids stored has none id among =
     let missing' = (λ (id : List ℕ). not (is_live_id stored id)) in
     not-false (is_live_id stored id)
-    (list_any-false missing' ids id (sym (is_some-find missing' ids) ∙ ap is_some (unmapped NoElement (find missing' ids) none)) (among-Contains ids id (sym (has id) ∙ among)))
+    (list_any-false missing' ids id (sym (is_some-find missing' ids)
+    ∙ ap is_some (unmapped NoElement (find missing' ids) none)) (among-Contains ids id (sym (has id) ∙ among)))
 
 -- ---- the command that was given is the one that was prepared for
-module _ {E : Type 0} (r : Result Effect E) (stored view : List ElementValue) (command given : Command) (is : given ≡ command) where
+module _ {E : Type 0} (r : Result Effect E) (stored view : List ElementValue) (command given : Command) (is : given
+    ≡ command) where
   pub as-given : IfOk r (Prepares stored view command) → IfOk r (Prepares stored view given)
   as-given h = subst (λ c. IfOk r (Prepares stored view c)) (sym is) h
 
-  pub for-stored : IfOk r (λ made. (view : List ElementValue) → Prepares stored view command made) → IfOk r (Prepares stored view given)
+  pub for-stored : IfOk r (λ made. (view : List ElementValue) → Prepares stored view command made)
+      → IfOk r (Prepares stored view given)
   for-stored h = as-given (at r h)
     where
-      at : (r : Result Effect E) → IfOk r (λ made. (view : List ElementValue) → Prepares stored view command made) → IfOk r (Prepares stored view command)
+      at : (r : Result Effect E) → IfOk r (λ made. (view : List ElementValue) → Prepares stored view command made)
+          → IfOk r (Prepares stored view command)
       at (Ok made) h = h view
       at (Err e) h = tt
 
-  pub for-all : IfOk r (λ made. (stored view : List ElementValue) → Prepares stored view command made) → IfOk r (Prepares stored view given)
+  pub for-all : IfOk r (λ made. (stored view : List ElementValue) → Prepares stored view command made)
+      → IfOk r (Prepares stored view given)
   for-all h = as-given (at r h)
     where
-      at : (r : Result Effect E) → IfOk r (λ made. (stored view : List ElementValue) → Prepares stored view command made) → IfOk r (Prepares stored view command)
+      at : (r : Result Effect E) → IfOk r (λ made. (stored view : List ElementValue)
+          → Prepares stored view command made) → IfOk r (Prepares stored view command)
       at (Ok made) h = h stored view
       at (Err e) h = tt
 
-  pub from-parts : IfOk r (λ made. (e : ElementValue) → Contains stored e → is_live e ≡ true → made_by made e ≡ effect stored view command e) → IfOk r IsSoundEffect → IfOk r (λ made. DeletesLive made stored) → IfOk r (Prepares stored view given)
+  pub from-parts : IfOk r (λ made. (e : ElementValue) → Contains stored e → is_live e ≡ true
+      → made_by made e ≡ effect stored view command e) → IfOk r IsSoundEffect → IfOk r (λ made. DeletesLive made stored)
+      → IfOk r (Prepares stored view given)
   from-parts exact sound live = as-given (at r exact sound live)
     where
-      at : (r : Result Effect E) → IfOk r (λ made. (e : ElementValue) → Contains stored e → is_live e ≡ true → made_by made e ≡ effect stored view command e) → IfOk r IsSoundEffect → IfOk r (λ made. DeletesLive made stored) → IfOk r (Prepares stored view command)
+      at : (r : Result Effect E) → IfOk r (λ made. (e : ElementValue) → Contains stored e → is_live e ≡ true
+          → made_by made e ≡ effect stored view command e) → IfOk r IsSoundEffect
+          → IfOk r (λ made. DeletesLive made stored) → IfOk r (Prepares stored view command)
       at (Ok made) exact sound live = record { exact = exact; sound = sound; live = live }
       at (Err e) exact sound live = tt

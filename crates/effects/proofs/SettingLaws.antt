@@ -59,13 +59,36 @@ none-all p (x ∷ xs) h = rw (h.0, none-all p xs h.1) refl
 
 abbrev Apart : List ℕ → Type 0
 Apart name =
-    AllByRecursion (λ x. bytes_eq name x ≡ false) (codes "containerId" ∷ codes "startBinding" ∷ codes "endBinding" ∷ codes "fileId" ∷ [])
+    AllByRecursion (λ x. bytes_eq name x ≡ false) (codes "containerId" ∷ codes "startBinding" ∷ codes "endBinding"
+    ∷ codes "fileId" ∷ [])
 
 pub free-header : (kind : Kind) (name : List ℕ) → is_protected name ≡ false → is_header kind name ≡ false
 free-header kind name h =
     let f = none-of (bytes_eq name) protected_names h in
     let common : list_any (bytes_eq name) header_names ≡ false =
-    none-all (bytes_eq name) header_names (f.0, (f.1.0, (f.1.1.0, (f.1.1.1.0, (f.1.1.1.1.0, (f.1.1.1.1.1.1.0, (f.1.1.1.1.1.0, (f.1.1.1.1.1.1.1.0, (f.1.1.1.1.1.1.1.1.0, (f.1.1.1.1.1.1.1.1.1.0, tt)))))))))) in
+    none-all (bytes_eq name) header_names (
+      f.0,
+      (
+        f.1.0,
+        (
+          f.1.1.0,
+          (
+            f.1.1.1.0,
+            (
+              f.1.1.1.1.0,
+              (
+                f.1.1.1.1.1.1.0,
+                (
+                  f.1.1.1.1.1.0,
+                  (f.1.1.1.1.1.1.1.0, (f.1.1.1.1.1.1.1.1.0, (f.1.1.1.1.1.1.1.1.1.0, tt))),
+                ),
+              ),
+            ),
+          ),
+        ),
+      ),
+    )
+    in
     rw common (own kind (f.1.1.1.1.1.1.1.1.1.1.1))
   where
     own : (kind : Kind) → Apart name → list_any (bytes_eq name) (own_names kind) ≡ false

@@ -27,7 +27,8 @@ lower e other = is_lt (slice_cmp nat_cmp e.id other.id)
 sorted-tail : (e : ElementValue) (es : List ElementValue) → IsSortedBy lower (e ∷ es) → IsSortedBy lower es
 sorted-tail e es up k d low within =
     let next : suc k + 1 ≡ suc (k + 1) = omega arith in
-    subst (λ n. lower (slice_index_or (e ∷ es) n d) (slice_index_or es k d) ≡ false) next (up (suc k) d (omega arith) (omega (arith, within)))
+    subst (λ n. lower (slice_index_or (e ∷ es) n d) (slice_index_or es k d) ≡ false) next
+    (up (suc k) d (omega arith) (omega (arith, within)))
 
 rises-sorted : (es : List ElementValue) → HaveDistinctIds es → IsSortedBy lower es → are_rising (ids_of es) ≡ true
 unfolding IsDistinct
@@ -39,32 +40,40 @@ rises-sorted (e ∷ f ∷ es) apart up =
     (rises-sorted (f ∷ es) apart.1 (sorted-tail e (f ∷ es) up))
 
 -- ---- new elements beside others
-apart-first : (e : ElementValue) (es new : List ElementValue) → AreApart new (e ∷ es) → AllByRecursion (λ id. bytes_eq e.id id ≡ false) (ids_of new)
+apart-first : (e : ElementValue) (es new : List ElementValue) → AreApart new (e ∷ es)
+    → AllByRecursion (λ id. bytes_eq e.id id ≡ false) (ids_of new)
 apart-first e es [] apart = tt
 apart-first e es (x ∷ new) apart = (
   nat_list_eq_equiv.symm e.id x.id ∙ (absent-parts x.id e es (apart x (Contains-head x new))).0,
   apart-first e es new (λ d c. apart d (Contains-cons x new d c)),
 )
 
-distinct-beside : (es new : List ElementValue) → HaveDistinctIds es → HaveDistinctIds new → AreApart new es → HaveDistinctIds (es ++ new)
+distinct-beside : (es new : List ElementValue) → HaveDistinctIds es → HaveDistinctIds new → AreApart new es
+    → HaveDistinctIds (es ++ new)
 unfolding IsDistinct
 distinct-beside [] new left right apart = right
 distinct-beside (e ∷ es) new left right apart = (
   subst (AllByRecursion (λ id. bytes_eq e.id id ≡ false)) (sym (map-append (λ (d : ElementValue). d.id) es new))
-      (AllByRecursion-append (λ id. bytes_eq e.id id ≡ false) (ids_of es) (ids_of new) left.0 (apart-first e es new apart)),
+      (AllByRecursion-append (λ id. bytes_eq e.id id ≡ false) (ids_of es) (ids_of new) left.0
+      (apart-first e es new apart)),
   distinct-beside es new left.1 right (λ d c. (absent-parts d.id e es (apart d c)).1),
 )
 
 -- the one sorted list of elements and new ones is that with each new one at its place
-module _ (new es all : List ElementValue) (rise : are_rising (ids_of es) ≡ true) (distinct : HaveDistinctIds new) (apart : AreApart new es) (moved : IsPermutation (es ++ new) all) (up : IsSortedBy lower all) where
+module _ (new es all : List ElementValue) (rise : are_rising (ids_of es) ≡ true) (distinct : HaveDistinctIds new)
+    (apart : AreApart new es) (moved : IsPermutation (es ++ new) all) (up : IsSortedBy lower all) where
   rises : are_rising (ids_of all) ≡ true
-  rises = rises-sorted all (HaveDistinctIds-permuted (es ++ new) all moved (distinct-beside es new (HaveDistinctIds-rising es rise) distinct apart)) up
+  rises =
+      rises-sorted all (HaveDistinctIds-permuted (es ++ new) all moved
+      (distinct-beside es new (HaveDistinctIds-rising es rise) distinct apart)) up
 
   into : (e : ElementValue) → Contains all e → Contains (with_created new es) e
-  into e c = elim (Contains-append_cases es new e (Contains-permutation all (es ++ new) e (IsPermutation-sym (es ++ new) all moved) c)) [
-    | inl old ↦ created-kept new es e old
-    | inr one ↦ created-there new es e distinct apart one
-  ]
+  into e c =
+      elim (Contains-append_cases es new e
+      (Contains-permutation all (es ++ new) e (IsPermutation-sym (es ++ new) all moved) c)) [
+        | inl old ↦ created-kept new es e old
+        | inr one ↦ created-there new es e distinct apart one
+      ]
 
   from : (e : ElementValue) → Contains (with_created new es) e → Contains all e
   from e c = Contains-permutation (es ++ new) all e moved (elim (created-cases new es e c) [
@@ -72,7 +81,9 @@ module _ (new es all : List ElementValue) (rise : are_rising (ids_of es) ≡ tru
     | inr old ↦ Contains-append_left es new e old
   ])
 
-  found : (some others : List ElementValue) → are_rising (ids_of others) ≡ true → ((e : ElementValue) → Contains some e → Contains others e) → (id : List ℕ) (e : ElementValue) → element_of some id ≡ Some e → element_of others id ≡ Some e
+  found : (some others : List ElementValue) → are_rising (ids_of others) ≡ true
+      → ((e : ElementValue) → Contains some e → Contains others e) → (id : List ℕ) (e : ElementValue)
+      → element_of some id ≡ Some e → element_of others id ≡ Some e
   found some others up to id e is =
       let at = find-Some (has_id id) some e is in
       ap (element_of others) (same_id id e at.1) ∙ member None None others e up (to e at.0)
@@ -82,7 +93,8 @@ module _ (new es all : List ElementValue) (rise : are_rising (ids_of es) ≡ tru
     | inr there ↦ found (with_created new es) all rises from id there.0 there.1 ∙ sym there.1
     | inl none ↦ elim (some-or-none (element_of all id)) [
       | inl absent ↦ absent ∙ sym none
-      | inr there ↦ absurd (none-some there.0 (sym none ∙ found all (with_created new es) (created-rises new es rise) into id there.0 there.1))
+      | inr there ↦ absurd (none-some there.0 (sym none
+          ∙ found all (with_created new es) (created-rises new es rise) into id there.0 there.1))
     ]
   ]
 

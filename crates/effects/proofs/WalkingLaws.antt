@@ -26,23 +26,27 @@ use Rattle.effects.proofs.NamedLaws.{own-id}
 abbrev pub told : ElementValue → ElementValue → Option ElementValue
 told e made = if differs e made then Some made else None
 
-pub told-none : (o : Option ElementValue) (e made : ElementValue) → ((x : ElementValue) → o ≡ Some x → ⊥) → unwrap_or o e ≡ made → None ≡ told e made
+pub told-none : (o : Option ElementValue) (e made : ElementValue) → ((x : ElementValue) → o ≡ Some x → ⊥)
+    → unwrap_or o e ≡ made → None ≡ told e made
 told-none None e made none is = subst (λ m. None ≡ told e m) is (rw (differs-not e e refl) refl)
 told-none (Some x) e made none is = absurd (none x refl)
 
-pub told-same : (o : Option ElementValue) (e new made : ElementValue) → o ≡ Some new → unwrap_or o e ≡ made → unstamped e ≡ unstamped new → None ≡ told e made
+pub told-same : (o : Option ElementValue) (e new made : ElementValue) → o ≡ Some new → unwrap_or o e ≡ made
+    → unstamped e ≡ unstamped new → None ≡ told e made
 told-same o e new made some is same =
     let m : new ≡ made = sym (ap (λ p. unwrap_or p e) some) ∙ is in
     subst (λ d. None ≡ told e d) m (rw (differs-not e new same) refl)
 
-pub told-other : (effect : Effect) (o : Option ElementValue) (e new : ElementValue) → o ≡ Some new → unwrap_or o e ≡ made_by effect e → (unstamped e ≡ unstamped new → ⊥) → Some new ≡ told e (made_by effect e)
+pub told-other : (effect : Effect) (o : Option ElementValue) (e new : ElementValue) → o ≡ Some new
+    → unwrap_or o e ≡ made_by effect e → (unstamped e ≡ unstamped new → ⊥) → Some new ≡ told e (made_by effect e)
 told-other effect o e new some is other =
     let m : new ≡ made_by effect e = sym (ap (λ p. unwrap_or p e) some) ∙ is in
     let keeps = made_by-keeps effect e in
     elim (cases_Bool (differs e (made_by effect e))) [
       | inl t ↦ ap Some m ∙ rw t refl
       | inr f ↦ absurd (other
-          (same-where-not e (made_by effect e) (sym (ap (λ (s : Self). s.id) keeps)) (sym (ap (λ (s : Self). s.kind) keeps)) (sym (ap (λ (s : Self). s.file) keeps)) f
+          (same-where-not e (made_by effect e) (sym (ap (λ (s : Self). s.id) keeps))
+          (sym (ap (λ (s : Self). s.kind) keeps)) (sym (ap (λ (s : Self). s.file) keeps)) f
           ∙ ap unstamped (sym m)))
     ]
 
@@ -56,39 +60,52 @@ told-some e made new h = elim (cases_Bool (differs e made)) [
 ]
 
 -- ---- one element that changes
-module _ (effect : Effect) (e : ElementValue) (live : is_live e ≡ true) (differ : differs e (made_by effect e) ≡ true) where
-  pub change_of-new : (time nonce : ℕ) (new result : ElementValue) → new ≡ made_by effect e → result ≡ stamped time nonce new → Some result ≡ change_of (made_by effect) time nonce e
-  change_of-new time nonce new result is stamp = rw (live, differ) (ap Some (stamp ∙ ap (stamped time nonce) is))
+module _ (effect : Effect) (e : ElementValue) (live : is_live e ≡ true) (differ : differs e (made_by effect e) ≡ true)
+  where
+    pub change_of-new : (time nonce : ℕ) (new result : ElementValue) → new ≡ made_by effect e
+        → result ≡ stamped time nonce new → Some result ≡ change_of (made_by effect) time nonce e
+    change_of-new time nonce new result is stamp = rw (live, differ) (ap Some (stamp ∙ ap (stamped time nonce) is))
 
-  version : (new : ElementValue) → new ≡ made_by effect e → new.version ≡ e.version
-  version new is = ap (λ (d : ElementValue). d.version) is ∙ ap (λ (s : Self). s.version) (made_by-keeps effect e)
+    version : (new : ElementValue) → new ≡ made_by effect e → new.version ≡ e.version
+    version new is = ap (λ (d : ElementValue). d.version) is ∙ ap (λ (s : Self). s.version) (made_by-keeps effect e)
 
-  pub not-full : (new : ElementValue) → new ≡ made_by effect e → new.version ≢ greatest_whole → is_full (made_by effect) e ≡ false
-  not-full new is other = elim (cases_Bool (e.version == greatest_whole)) [
-    | inl t ↦ absurd (other (version new is ∙ eqb-true e.version greatest_whole t))
-    | inr f ↦ rw (live, differ) f
-  ]
+    pub not-full : (new : ElementValue) → new ≡ made_by effect e → new.version ≢ greatest_whole
+        → is_full (made_by effect) e ≡ false
+    not-full new is other = elim (cases_Bool (e.version == greatest_whole)) [
+      | inl t ↦ absurd (other (version new is ∙ eqb-true e.version greatest_whole t))
+      | inr f ↦ rw (live, differ) f
+    ]
 
-  pub is-full : (new : ElementValue) (refusal : Refusal) → new ≡ made_by effect e → (new.version ≡ greatest_whole) × (refusal ≡ refusal_at new) → (is_full (made_by effect) e ≡ true) × (refusal ≡ refusal_at e)
-  is-full new refusal is full = (
-    rw (live, differ) (eq-eqb e.version greatest_whole (sym (version new is) ∙ full.0)),
-    full.1 ∙ ap refusal_at is ∙ λ i. elim-id (made_by-keeps effect e i),
-  )
-    where
-      elim-id : Self → Refusal
-      elim-id s = refusal_at (record e { id = s.id })
+    pub is-full : (new : ElementValue) (refusal : Refusal) → new ≡ made_by effect e → (new.version ≡ greatest_whole)
+        × (refusal ≡ refusal_at new) → (is_full (made_by effect) e ≡ true) × (refusal ≡ refusal_at e)
+    is-full new refusal is full = (
+      rw (live, differ) (eq-eqb e.version greatest_whole (sym (version new is) ∙ full.0)),
+      full.1 ∙ ap refusal_at is ∙ λ i. elim-id (made_by-keeps effect e i),
+    )
+      where
+        elim-id : Self → Refusal
+        elim-id s = refusal_at (record e { id = s.id })
 
 -- the stored element of an id stands at the greatest version
-pub full-at : {T : Type 0} (r : Result T (Stop Refusal)) (stored : List ElementValue) (makes : ElementValue → ElementValue) (id : List ℕ) (e : ElementValue) → element_of stored id ≡ Some e
-    → IfErr r (λ stop. OnFault stop (λ refusal. (is_full makes e ≡ true) × (refusal ≡ refusal_at e))) → IfErr r (λ stop. OnFault stop (λ refusal. (is_full_at stored makes id ≡ true) × (refusal ≡ VersionFull id)))
+pub full-at : {T : Type 0} (r : Result T (Stop Refusal)) (stored : List ElementValue) (makes : ElementValue
+    → ElementValue) (id : List ℕ) (e : ElementValue) → element_of stored id ≡ Some e
+    → IfErr r (λ stop. OnFault stop (λ refusal. (is_full makes e ≡ true) × (refusal ≡ refusal_at e)))
+    → IfErr r (λ stop. OnFault stop (λ refusal. (is_full_at stored makes id ≡ true) × (refusal ≡ VersionFull id)))
 full-at (Ok x) stored makes id e found h = tt
 full-at (Err stop) stored makes id e found h =
-    OnFault-weaker (λ refusal. (is_full makes e ≡ true) × (refusal ≡ refusal_at e)) (λ refusal. (is_full_at stored makes id ≡ true) × (refusal ≡ VersionFull id)) stop
-    (λ refusal p. (ap (λ (o : Option ElementValue). option_map_or (is_full makes) o false) found ∙ p.0, p.1 ∙ ap VersionFull (sym (own-id stored id e found)))) h
+    OnFault-weaker (λ refusal. (is_full makes e ≡ true) × (refusal ≡ refusal_at e))
+    (λ refusal. (is_full_at stored makes id ≡ true) × (refusal ≡ VersionFull id)) stop
+    (λ refusal p. (
+      ap (λ (o : Option ElementValue). option_map_or (is_full makes) o false) found ∙ p.0,
+      p.1
+          ∙ ap VersionFull (sym (own-id stored id e found)),
+    )) h
 
 -- ---- the ids that are left, of which one is next
-module _ (f : List ℕ → Option ElementValue) (p : List ℕ → Bool) (left rest : List (List ℕ)) (id : List ℕ) (next : left ≡ id ∷ rest) where
-  pub walked-made : (changed all : List ElementValue) (new : Option ElementValue) → new ≡ f id → changed ++ filter_map f left ≡ all → (changed ++ cons_option new []) ++ filter_map f rest ≡ all
+module _ (f : List ℕ → Option ElementValue) (p : List ℕ → Bool) (left rest : List (List ℕ)) (id : List ℕ) (next : left
+    ≡ id ∷ rest) where
+  pub walked-made : (changed all : List ElementValue) (new : Option ElementValue) → new ≡ f id
+      → changed ++ filter_map f left ≡ all → (changed ++ cons_option new []) ++ filter_map f rest ≡ all
   walked-made changed all new is so_far =
       append_assoc changed (cons_option new []) (filter_map f rest)
       ∙ ap (λ es. changed ++ es) (first new (filter_map f rest) ∙ ap (λ o. cons_option o (filter_map f rest)) is)

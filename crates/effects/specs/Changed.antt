@@ -45,14 +45,17 @@ changes_of makes time nonce stored = filter_map (change_of makes time nonce) sto
 
 -- the element as a new one, with the key at the spot
 abbrev pub created_at : List ElementValue → ElementValue → Spot → ℕ → ℕ → ElementValue
-created_at shown element spot time nonce = record (as_new time nonce element) { index = key_at shown spot None None }
+created_at shown element spot time nonce =
+    record (as_new time nonce element) { index = key_at shown spot None None }
 
 -- the new elements of a command
 abbrev pub created : List ElementValue → Command → ℕ → ℕ → List ElementValue
-created shown (commands.Create element spot) time nonce = created_at shown element spot time nonce ∷ []
+created shown (commands.Create element spot) time nonce =
+    created_at shown element spot time nonce ∷ []
 created shown (commands.Duplicate ids prefix spot) time nonce =
     copies_at shown (shown_among ids shown) prefix spot time nonce
-created shown (commands.Paste elements prefix spot) time nonce = copies_at shown elements prefix spot time nonce
+created shown (commands.Paste elements prefix spot) time nonce =
+    copies_at shown elements prefix spot time nonce
 created shown _ time nonce = []
 
 -- elements in the order of their ids, and a new one at its place; one whose id is there is left out
@@ -66,19 +69,21 @@ abbrev pub with_created : List ElementValue → List ElementValue → List Eleme
 with_created [] elements = elements
 with_created (e ∷ new) elements = with_created new (with_new e elements)
 
--- what comes of a function of elements and new ones: the least id whose element can't change, or the changed elements
+-- what comes of a function of elements and new ones: the least id whose element can't change, or
+-- the changed elements
 abbrev pub outcome_from : Option ElementValue → List ElementValue → List ElementValue
     → Result (List ElementValue) Refusal
 outcome_from (Some full) new changes = Err (refusal_at full)
 outcome_from None new changes = Ok (with_created new changes)
 
--- The changed elements of a command in the order of their ids, or its refusal: of the stored elements in the order of
--- their ids, of the shown ones in theirs, and for this time and nonce.
+-- The changed elements of a command in the order of their ids, or its refusal: of the stored
+-- elements in the order of their ids, of the shown ones in theirs, and for this time and nonce.
 abbrev pub outcome_unless : Option Refusal → List ElementValue → List ElementValue → Command → ℕ
     → ℕ → Result (List ElementValue) Refusal
 outcome_unless (Some refusal) stored shown command time nonce = Err refusal
 outcome_unless None stored shown command time nonce =
-    outcome_from (find (is_full (effect stored shown command)) stored) (created shown command time nonce)
+    outcome_from (find (is_full (effect stored shown command)) stored)
+    (created shown command time nonce)
     (changes_of (effect stored shown command) time nonce stored)
 
 abbrev pub outcome : List ElementValue → List ElementValue → Command → ℕ → ℕ

@@ -14,16 +14,19 @@ use Rattle.effects.specs.Changed.{change_of, is_full}
 use Rattle.effects.specs.Naming.{is_among}
 use Rattle.effects.specs.Refusals.{is_live_id}
 
--- what is made of the stored element of an id, stamped, if that changes; and whether it would change one that stands at
--- the greatest version
-abbrev pub change_at : List ElementValue → (ElementValue → ElementValue) → ℕ → ℕ → List ℕ → Option ElementValue
-change_at stored makes time nonce id = option_and_then (change_of makes time nonce) (element_of stored id)
+-- what is made of the stored element of an id, stamped, if that changes; and whether it would
+-- change one that stands at the greatest version
+abbrev pub change_at : List ElementValue → (ElementValue → ElementValue) → ℕ → ℕ → List ℕ
+    → Option ElementValue
+change_at stored makes time nonce id =
+    option_and_then (change_of makes time nonce) (element_of stored id)
 
 abbrev pub is_full_at : List ElementValue → (ElementValue → ElementValue) → List ℕ → Bool
 is_full_at stored makes id = option_map_or (is_full makes) (element_of stored id) false
 
 -- each live stored element of another id than these stays as it is
-abbrev pub LeavesOthers : (ElementValue → ElementValue) → List ElementValue → BTreeSet (List ℕ) → Type 0
+abbrev pub LeavesOthers : (ElementValue → ElementValue) → List ElementValue → BTreeSet (List ℕ)
+    → Type 0
 LeavesOthers makes stored ids =
     (e : ElementValue) → Contains stored e → is_live e ≡ true
     → contains (slice_cmp nat_cmp) ids e.id ≡ false → makes e ≡ e
@@ -37,7 +40,8 @@ DeletesLive _ stored = Unit {0}
 -- the one set has the ids of the other
 abbrev pub IsWithin : BTreeSet (List ℕ) → BTreeSet (List ℕ) → Type 0
 IsWithin ids others =
-    (id : List ℕ) → contains (slice_cmp nat_cmp) ids id ≡ true → contains (slice_cmp nat_cmp) others id ≡ true
+    (id : List ℕ) → contains (slice_cmp nat_cmp) ids id ≡ true
+    → contains (slice_cmp nat_cmp) others id ≡ true
 
 -- the set has the ids of the live elements that name this one
 abbrev pub HasNamers : List ElementValue → List ℕ → BTreeSet (List ℕ) → Type 0
@@ -45,7 +49,8 @@ HasNamers stored id set =
     (e : ElementValue) → Contains stored e → is_live e ≡ true → names_id id e ≡ true
     → contains (slice_cmp nat_cmp) set e.id ≡ true
 
--- The set has the ids of the live elements that name one of these, and all that the shown elements of these name.
+-- The set has the ids of the live elements that name one of these, and all that the shown elements
+-- of these name.
 pub record HaveLinked (stored elements : List ElementValue) (ids : List (List ℕ))
     (set : BTreeSet (List ℕ)) : Type 0 where
   pub namers : (id : List ℕ) → is_among ids id ≡ true → HasNamers stored id set

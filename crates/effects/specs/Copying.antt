@@ -1,5 +1,5 @@
--- What commands copy, and where the copies stand. After Excalidraw's duplicating; that they stand one above the other
--- at a spot is this project's own.
+-- What commands copy, and where the copies stand. After Excalidraw's duplicating; that they stand
+-- one above the other at a spot is this project's own.
 use Rattle.std.specs.Prelude.{ℕ, List, [], ◌∷◌, false, None, filter, map, length}
 use Rattle.elem.specs.ElementValue.{ElementValue}
 use Rattle.elem.specs.Order.{unstamped}
@@ -13,7 +13,8 @@ use Rattle.effects.specs.Placing.{keys_at}
 abbrev pub shown_among : List (List ℕ) → List ElementValue → List ElementValue
 shown_among ids shown = filter (λ (e : ElementValue). is_among ids e.id) shown
 
--- the elements whose keys are settled where these are copied: all that is shown, and none where nothing is copied
+-- the elements whose keys are settled where these are copied: all that is shown, and none where
+-- nothing is copied
 abbrev pub settled_for : List ElementValue → List ElementValue → List ElementValue
 settled_for [] shown = []
 settled_for (e ∷ originals) shown = shown
@@ -23,7 +24,8 @@ abbrev pub as_new : ℕ → ℕ → ElementValue → ElementValue
 as_new time nonce e = record e { version = 1; nonce = nonce; updated = time; deleted = false }
 
 -- the copies of elements under a prefix, one above the other at a spot
-abbrev pub copies_at : List ElementValue → List ElementValue → List ℕ → Spot → ℕ → ℕ → List ElementValue
+abbrev pub copies_at : List ElementValue → List ElementValue → List ℕ → Spot → ℕ → ℕ
+    → List ElementValue
 copies_at shown originals prefix spot time nonce =
     map (as_new time nonce) (keyed (copies_of originals prefix)
     (keys_at shown spot (length (copies_of originals prefix))))

@@ -18,7 +18,8 @@ kept_end is_gone end' = if is_some_that is_gone (target_of end') then None else 
 abbrev pub kept_entries : (List ℕ → Bool) → List BoundRef → List BoundRef
 kept_entries is_gone entries = filter (λ (entry : BoundRef). not (is_gone entry.id)) entries
 
--- the element without the bindings, the container, the frame and the entries of its listing that name what is gone
+-- the element without the bindings, the container, the frame and the entries of its listing that
+-- name what is gone
 abbrev pub without_names : (List ℕ → Bool) → ElementValue → ElementValue
 without_names is_gone e = record e {
   frame = kept_name is_gone e.frame;
@@ -38,4 +39,5 @@ abbrev pub has_gone_names : (List ℕ → Bool) → ElementValue → Bool
 has_gone_names is_gone e =
     is_some_that is_gone e.frame || (is_some_that is_gone e.container ||
     (is_some_that is_gone (target_of e.start_binding)
-    || (is_some_that is_gone (target_of e.end_binding) || list_any (λ (entry : BoundRef). is_gone entry.id) e.bound)))
+    || (is_some_that is_gone (target_of e.end_binding)
+    || list_any (λ (entry : BoundRef). is_gone entry.id) e.bound)))

@@ -30,8 +30,8 @@ abbrev pub ungrouped : List (List ℕ) → List ℕ → ElementValue → Element
 ungrouped ids group e =
     if is_among ids e.id then record e { groups = without_group group e.groups } else e
 
--- What the command makes of a live element, as stored: itself where it isn't concerned. What the element of an id names
--- is looked up among the stored elements, and keys among the shown ones.
+-- What the command makes of a live element, as stored: itself where it isn't concerned. What the
+-- element of an id names is looked up among the stored elements, and keys among the shown ones.
 abbrev pub effect : List ElementValue → List ElementValue → Command → ElementValue → ElementValue
 effect stored shown (commands.Create element spot) e = with_view_key shown e
 effect stored shown (commands.Set id member value) e =
@@ -40,7 +40,8 @@ effect stored shown (commands.Delete ids) e = deleted_from (is_among ids) e
 effect stored shown (commands.Place id spot) e =
     with_key_of id (key_at shown spot (Some id) (key_in shown id)) (with_view_key shown e)
 effect stored shown (commands.Bind arrow side target rest) e =
-    bound_to arrow side (Some (record { target = target; rest = rest })) (old_target stored arrow side) e
+    bound_to arrow side (Some (record { target = target; rest = rest }))
+    (old_target stored arrow side) e
 effect stored shown (commands.Unbind arrow side) e =
     bound_to arrow side None (old_target stored arrow side) e
 effect stored shown (commands.Label container text) e =

@@ -18,7 +18,8 @@ Stays stored given id = stored_after stored given id ≡ element_of stored id
 abbrev pub Becomes : List ElementValue → List ElementValue → List ℕ
     → (ElementValue → ElementValue → Type 0) → Type 0
 Becomes stored given id P =
-    IsSomeAnd (element_of stored id) (λ (old : ElementValue). IsSomeAnd (stored_after stored given id)
+    IsSomeAnd (element_of stored id)
+    (λ (old : ElementValue). IsSomeAnd (stored_after stored given id)
     (λ (e : ElementValue). P old e))
 
 -- The stored element of its id was live, and differs from it outside the stamp.

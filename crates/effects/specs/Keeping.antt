@@ -20,9 +20,10 @@ unbound_rest e = record (unstamped e) { bound = []; start_binding = None; end_bi
 abbrev pub arrow_entries : List BoundRef → List BoundRef
 arrow_entries entries = filter (λ (entry : BoundRef). not (is_for_text entry.role)) entries
 
--- What a label leaves of a live element: all but containers and listings; the container of all but the text and of
--- those that named the new container; the listing of all but the new container and of what the text named before; each
--- entry of an arrow; and in all but the new container each entry but the text's.
+-- What a label leaves of a live element: all but containers and listings; the container of all but
+-- the text and of those that named the new container; the listing of all but the new container and
+-- of what the text named before; each entry of an arrow; and in all but the new container each
+-- entry but the text's.
 pub record LabelKeeps (stored : List ElementValue) (container text : List ℕ)
     (old e : ElementValue) : Type 0 where
   pub rest : unlabelled_rest e ≡ unlabelled_rest old
@@ -33,8 +34,8 @@ pub record LabelKeeps (stored : List ElementValue) (container text : List ℕ)
       → without_listing_entry (text_entry text) e.bound ≡ without_listing_entry
       (text_entry text) old.bound
 
--- What an unlabel leaves of a live element: all but containers and listings; the container of all but the text; the
--- listing of all but what the text named; and each entry but the text's.
+-- What an unlabel leaves of a live element: all but containers and listings; the container of all
+-- but the text; the listing of all but what the text named; and each entry but the text's.
 pub record UnlabelKeeps (stored : List ElementValue) (text : List ℕ)
     (old e : ElementValue) : Type 0 where
   pub rest : unlabelled_rest e ≡ unlabelled_rest old
@@ -43,8 +44,9 @@ pub record UnlabelKeeps (stored : List ElementValue) (text : List ℕ)
   pub others : without_listing_entry (text_entry text) e.bound ≡ without_listing_entry
       (text_entry text) old.bound
 
--- What a new binding of an end of an arrow, or its loss, leaves of a live element: all but ends and listings; each end
--- but that one; the listing of all but the new target and of what the end alone named; and each entry but the arrow's.
+-- What a new binding of an end of an arrow, or its loss, leaves of a live element: all but ends and
+-- listings; each end but that one; the listing of all but the new target and of what the end alone
+-- named; and each entry but the arrow's.
 pub record BindKeeps (stored : List ElementValue) (arrow : List ℕ) (side : Side)
     (target : Option (List ℕ)) (old e : ElementValue) : Type 0 where
   pub rest : unbound_rest e ≡ unbound_rest old

@@ -1,5 +1,5 @@
--- Ends of arrows that are bound, and texts that get a container: the listings of what is named change with the names.
--- This project's own, after Excalidraw's bindings and bound texts.
+-- Ends of arrows that are bound, and texts that get a container: the listings of what is named
+-- change with the names. This project's own, after Excalidraw's bindings and bound texts.
 use Rattle.std.specs.Prelude.{ℕ, List, [], ◌∷◌, ◌++◌, not, ◌&&◌, ◌||◌, Option, Some, None, filter, bytes_eq, if◌then◌else◌}
 use Rattle.std.specs.Option.{option_and_then}
 use Rattle.elem.specs.declared.parts.BoundRef.{BoundRef}

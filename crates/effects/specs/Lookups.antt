@@ -8,12 +8,15 @@ use Rattle.view.specs.Settled.{AreSettled}
 use Rattle.view.specs.Shown.{live_elements}
 use Rattle.effects.specs.declared.lookup.Lookup.{Lookup}
 
--- The ids of what is stored rise. What is shown has the ids of the live elements, has rising keys, and is settled. The
--- table is of who of the live elements names whom, and each element but the unsettled ones is shown as it is stored.
+-- The ids of what is stored rise. What is shown has the ids of the live elements, has rising keys,
+-- and is settled. The table is of who of the live elements names whom, and each element but the
+-- unsettled ones is shown as it is stored.
 pub record IsLookup (lookup : Lookup) : Type 0 where
   pub ordered : are_rising (ids_of lookup.store.now.elements) ≡ true
-  pub ids : IsPermutation (ids_of (live_elements lookup.store.now.elements)) (ids_of lookup.shown.now)
+  pub ids : IsPermutation (ids_of (live_elements lookup.store.now.elements))
+      (ids_of lookup.shown.now)
   pub keys : HaveRisingKeys lookup.shown.now
   pub settled : AreSettled lookup.shown.now
   pub table : HaveRowsOf (live_elements lookup.store.now.elements) lookup.names.now.rows
-  pub others : AreOthersAsStored lookup.unsettled.now (live_elements lookup.store.now.elements) lookup.shown.now
+  pub others : AreOthersAsStored lookup.unsettled.now (live_elements lookup.store.now.elements)
+      lookup.shown.now

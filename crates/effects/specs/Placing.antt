@@ -37,7 +37,8 @@ last_key_or key (e ∷ elements) = last_key_or e.index elements
 abbrev pub last_key : List ElementValue → Option (List ℕ)
 last_key elements = last_key_or None elements
 
--- the keys beside a spot of elements in their order: of the element below it and of the one above it
+-- the keys beside a spot of elements in their order: of the element below it and of the one above
+-- it
 pub record Gap : Type 0 where
   pub low : Option (List ℕ)
   pub high : Option (List ℕ)
@@ -45,7 +46,8 @@ pub record Gap : Type 0 where
 abbrev pub gap_above : List ℕ → List ElementValue → Gap
 gap_above id [] = record { low = None; high = None }
 gap_above id (e ∷ elements) =
-    if bytes_eq id e.id then record { low = e.index; high = first_key elements } else gap_above id elements
+    if bytes_eq id e.id then record { low = e.index; high = first_key elements } else gap_above id
+    elements
 
 abbrev pub gap_at : Spot → List ElementValue → Gap
 gap_at Bottom elements = record { low = None; high = first_key elements }
@@ -65,13 +67,15 @@ key_within gap old = if lies_within gap old then old else Some (key_between gap.
 abbrev pub gap_of : List ElementValue → Spot → Option (List ℕ) → Gap
 gap_of shown spot except = gap_at spot (others except shown)
 
--- The key at a spot among the others of an element of this id, or of a new one: its old one where it stands there.
+-- The key at a spot among the others of an element of this id, or of a new one: its old one where
+-- it stands there.
 abbrev pub key_at : List ElementValue → Spot → Option (List ℕ) → Option (List ℕ) → Option (List ℕ)
 key_at shown spot except old = key_within (gap_of shown spot except) old
 
 -- the keys of so many new elements at a spot, one above the other
 abbrev pub keys_at : List ElementValue → Spot → ℕ → List (List ℕ)
-keys_at shown spot count = keys_between (gap_of shown spot None).low (gap_of shown spot None).high count
+keys_at shown spot count =
+    keys_between (gap_of shown spot None).low (gap_of shown spot None).high count
 
 -- the key of the shown element of an id
 abbrev pub key_in : List ElementValue → List ℕ → Option (List ℕ)

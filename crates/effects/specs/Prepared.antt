@@ -34,7 +34,8 @@ HasKeys keys elements =
 
 -- those of the elements that are of these ids
 abbrev pub elements_among : BTreeSet (List ℕ) → List ElementValue → List ElementValue
-elements_among ids elements = filter (λ (e : ElementValue). contains (slice_cmp nat_cmp) ids e.id) elements
+elements_among ids elements =
+    filter (λ (e : ElementValue). contains (slice_cmp nat_cmp) ids e.id) elements
 
 -- the element with its key among these
 abbrev pub settled_in : BTreeMap (List ℕ) (Option (List ℕ)) → ElementValue → ElementValue
@@ -72,9 +73,11 @@ made_by (effects.Unlabel text old entry) e = taken_out text old entry e
 made_by (effects.Frame ids frame) e =
     if contains (slice_cmp nat_cmp) ids e.id then record e { frame = frame } else e
 made_by (effects.Group ids group) e =
-    if contains (slice_cmp nat_cmp) ids e.id then record e { groups = with_group group e.groups } else e
+    if contains (slice_cmp nat_cmp) ids e.id then record e { groups = with_group group e.groups }
+    else e
 made_by (effects.Ungroup ids group) e =
-    if contains (slice_cmp nat_cmp) ids e.id then record e { groups = without_group group e.groups } else e
+    if contains (slice_cmp nat_cmp) ids e.id then record e { groups = without_group group e.groups }
+    else e
 
 -- What is set may be set, what is bound is a binding, and a text's entry is its own.
 abbrev pub IsSoundEffect : Effect → Type 0

@@ -56,7 +56,8 @@ command_ids (commands.Paste elements prefix spot) = spot_ids spot
 -- the first of these ids that is stored under a prefix, maybe as deleted
 abbrev pub first_stored : List ElementValue → List ℕ → List (List ℕ) → Option Refusal
 first_stored stored prefix ids =
-    option_map (λ id. Exists (prefix ++ id)) (find (λ id. is_some (element_of stored (prefix ++ id))) ids)
+    option_map (λ id. Exists (prefix ++ id))
+    (find (λ id. is_some (element_of stored (prefix ++ id))) ids)
 
 -- The id of a new element is stored, maybe as deleted.
 abbrev pub existing : List ElementValue → Command → Option Refusal

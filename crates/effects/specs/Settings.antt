@@ -8,11 +8,14 @@ use Rattle.restore_table.specs.Table.{defaults}
 use Rattle.elem.specs.ElementValue.{ElementValue}
 use Rattle.effects.specs.Naming.{is_among}
 
--- the names of the members that no value can be given: what an element is, its stamp, and what other commands change
+-- the names of the members that no value can be given: what an element is, its stamp, and what
+-- other commands change
 abbrev pub protected_names : List (List ℕ)
 protected_names =
-    codes "id" ∷ codes "type" ∷ codes "version" ∷ codes "versionNonce" ∷ codes "updated" ∷ codes "index" ∷ codes "isDeleted"
-    ∷ codes "groupIds" ∷ codes "frameId" ∷ codes "boundElements" ∷ codes "boundElementIds" ∷ codes "containerId"
+    codes "id" ∷ codes "type" ∷ codes "version" ∷ codes "versionNonce" ∷ codes "updated"
+    ∷ codes "index" ∷ codes "isDeleted"
+    ∷ codes "groupIds" ∷ codes "frameId" ∷ codes "boundElements" ∷ codes "boundElementIds"
+    ∷ codes "containerId"
     ∷ codes "startBinding" ∷ codes "endBinding" ∷ codes "fileId" ∷ []
 
 abbrev pub is_protected : List ℕ → Bool
@@ -25,4 +28,5 @@ given_value name value =
 
 -- The element whose member of this name got a value: the names of its further members rise.
 abbrev pub with_set_member : List ℕ → List ℕ → ElementValue → ElementValue
-with_set_member name value e = record e { rest = with_value name (Some (given_value name value)) e.rest }
+with_set_member name value e =
+    record e { rest = with_value name (Some (given_value name value)) e.rest }

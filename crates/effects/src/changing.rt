@@ -27,10 +27,11 @@ use elem::Element;
 use std::alloc::{AllocError, Global};
 use std::cmp::Ordering;
 
-/// The elements that a command changes on a board, as they become, in the order of their ids; or why it is refused.
-/// Each that changes is stamped with the time and the nonce. The board itself stays: whoever calls stores the elements.
-/// It looks only at the elements that the command names, at those that name them or are named by them, and, where keys
-/// or names may be unsettled, at these.
+/// The elements that a command changes on a board, as they become, in the order of their ids; or
+/// why it is refused. Each that changes is stamped with the time and the nonce. The board itself
+/// stays: whoever calls stores the elements. It looks only at the elements that the command
+/// names, at those that name them or are named by them, and, where keys or names may be
+/// unsettled, at these.
 pub fn changed(
     alloc: Global,
     lookup: &Lookup<'_>,
@@ -43,9 +44,11 @@ pub fn changed(
     requires limits { IsWithinLimits command.now }
     requires lookup { IsLookup lookup.now }
     ensures exact { IfOk result (λ changed.
-        outcome lookup.now.store.now.elements lookup.now.shown.now command.now time nonce ≡ Ok changed) }
+        outcome lookup.now.store.now.elements lookup.now.shown.now command.now time nonce
+        ≡ Ok changed) }
     ensures refused { IfErr result (λ stop. OnFault stop (λ refusal.
-        outcome lookup.now.store.now.elements lookup.now.shown.now command.now time nonce ≡ Err refusal)) }
+        outcome lookup.now.store.now.elements lookup.now.shown.now command.now time nonce
+        ≡ Err refusal)) }
 {
     check(alloc, lookup, command)?;
     let effect = prepared(alloc, lookup, command)?;
@@ -67,7 +70,8 @@ fn created(
     requires time { time ≤ greatest_whole }
     requires nonce { nonce ≤ greatest_whole }
     requires lookup { IsLookup lookup.now }
-    ensures { IfOk result (λ new. new ≡ changes.created lookup.now.shown.now command.now time nonce) }
+    ensures { IfOk result (λ new. new ≡ changes.created lookup.now.shown.now command.now time
+        nonce) }
 {
     match command {
         Command::Create { element, spot } => created_at(alloc, lookup, element, spot, time, nonce),

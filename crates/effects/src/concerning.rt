@@ -73,7 +73,8 @@ fn placed_ids(alloc: Global, keys: &Keys, id: &Text) -> Result<BTreeSet<Text>, A
 
 /// One id alone.
 fn id_alone(alloc: Global, id: &Text) -> Result<BTreeSet<Text>, AllocError>
-    ensures { IfOk result (λ ids. (other : Items ℕ) → contains (slice_cmp nat_cmp) ids other ≡ bytes_eq other id.now) }
+    ensures { IfOk result (λ ids. (other : Items ℕ) → contains (slice_cmp nat_cmp) ids other
+        ≡ bytes_eq other id.now) }
 {
     let mut ids = BTreeSet::new(alloc);
     add(&mut ids, id)?;
@@ -109,7 +110,8 @@ fn labelled_ids(
     label: &Label,
 ) -> Result<BTreeSet<Text>, AllocError>
     requires { IsLookup lookup.now }
-    ensures own { IfOk result (λ ids. (other : Items ℕ) → contains (slice_cmp nat_cmp) ids other ≡ false
+    ensures own { IfOk result (λ ids. (other : Items ℕ) → contains (slice_cmp nat_cmp) ids other
+        ≡ false
         → (is_id other label.now.old
         || (bytes_eq other label.now.container || bytes_eq other label.now.text)) ≡ false) }
     ensures namers { IfOk result (HasNamers lookup.now.store.now.elements label.now.container) }
@@ -143,7 +145,8 @@ fn deleted_ids(
 ) -> Result<BTreeSet<Text>, AllocError>
     requires { IsLookup lookup.now }
     ensures own { IfOk result (λ all. (id : Items ℕ) → contains (slice_cmp nat_cmp) all id ≡ false
-        → (contains (slice_cmp nat_cmp) lookup.now.unsettled.now id || contains (slice_cmp nat_cmp) ids.now id)
+        → (contains (slice_cmp nat_cmp) lookup.now.unsettled.now id
+        || contains (slice_cmp nat_cmp) ids.now id)
         ≡ false) }
     ensures linked { IfOk result
         (HaveLinked lookup.now.store.now.elements lookup.now.shown.now ids.now.keys) }

@@ -58,7 +58,8 @@ pub(crate) fn copies_at(
     requires nonce { nonce ≤ greatest_whole }
     requires lookup { IsLookup lookup.now }
     ensures { IfOk result
-        (λ new. new ≡ copying.copies_at lookup.now.shown.now originals.now prefix.now spot.now time nonce) }
+        (λ new. new ≡ copying.copies_at lookup.now.shown.now originals.now prefix.now spot.now time
+        nonce) }
 {
     let gap = gap_at(lookup, spot, None);
     let copies = copies(alloc, originals.as_slice(), prefix)?;

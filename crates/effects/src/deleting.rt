@@ -121,7 +121,10 @@ fn with_bound(mut e: Element, bound: List<BoundRef>) -> Element
 
 /// The element, its frame gone if that is one of these ids.
 fn without_frame(ids: &BTreeSet<Text>, mut e: Element) -> Element
-    ensures { result ≡ record e { frame = deleting.kept_name (contains (slice_cmp nat_cmp) ids.now) e.frame } }
+    ensures { result ≡ record e {
+      frame = deleting.kept_name (contains (slice_cmp nat_cmp) ids.now)
+          e.frame;
+    } }
 {
     if is_gone(ids, &e.frame) {
         e.frame = None;
@@ -131,7 +134,10 @@ fn without_frame(ids: &BTreeSet<Text>, mut e: Element) -> Element
 
 /// The element, its container gone if that is one of these ids.
 fn without_container(ids: &BTreeSet<Text>, mut e: Element) -> Element
-    ensures { result ≡ record e { container = deleting.kept_name (contains (slice_cmp nat_cmp) ids.now) e.container } }
+    ensures { result ≡ record e {
+      container =
+          deleting.kept_name (contains (slice_cmp nat_cmp) ids.now) e.container;
+    } }
 {
     if is_gone(ids, &e.container) {
         e.container = None;

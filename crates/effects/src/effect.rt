@@ -146,7 +146,8 @@ fn set(
     requires nests { IsCompact 100 value.now }
     ensures { IfOk result
         (λ new. unwrap_or new e.now
-        ≡ (if bytes_eq id.now e.now.id then settings.with_set_member member.now value.now e.now else e.now)) }
+        ≡ (if bytes_eq id.now e.now.id then settings.with_set_member member.now value.now e.now
+        else e.now)) }
 {
     if *id == e.id {
         return Ok(Some(with_member(alloc, e, member, value)?));

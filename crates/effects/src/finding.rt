@@ -44,7 +44,8 @@ pub(crate) fn shown_place(lookup: &Lookup<'_>, id: &Text) -> Option<usize>
     }
 }
 
-/// The place of the shown element of an id, if it has the key that is stored: the keys of what is shown rise.
+/// The place of the shown element of an id, if it has the key that is stored: the keys of what is
+/// shown rise.
 fn place_by_key(lookup: &Lookup<'_>, id: &Text) -> Option<usize>
     ensures { IfSome result (IsAt lookup.now.shown.now id.now) }
 {

@@ -26,8 +26,9 @@ ghost use Rattle.board_commands.specs.declared.command.Command.TheVariants as co
 ghost use Rattle.board_commands.specs.declared.command.Side.{Side};
 ghost use Rattle.board_commands.specs.declared.command.Spot.{Spot};
 
-/// What a command gives, in the order of the ids: a store of the board's elements takes each; each is of the kind of
-/// the stored element of its id, and one version on; and each differs from that outside the stamp, or is new.
+/// What a command gives, in the order of the ids: a store of the board's elements takes each; each
+/// is of the kind of the stored element of its id, and one version on; and each differs from that
+/// outside the stamp, or is new.
 pub fn given_elements_are_taken()
     ensures rise { (stored shown given : List ElementValue) (command : Command) (time nonce : ℕ)
         → are_rising (ids_of stored) ≡ true → outcome stored shown command time nonce ≡ Ok given
@@ -44,8 +45,8 @@ pub fn given_elements_are_taken()
         → (e : ElementValue) → Contains given e → ChangesStored stored e ⊎ IsNew stored e }
 {}
 
-/// What is stored once the given elements are: of each live element what the command makes of it, but for the stamp;
-/// and a deleted one stays.
+/// What is stored once the given elements are: of each live element what the command makes of it,
+/// but for the stamp; and a deleted one stays.
 pub fn effect_is_stored()
     ensures live { (stored shown given : List ElementValue) (command : Command) (time nonce : ℕ)
         → are_rising (ids_of stored) ≡ true → outcome stored shown command time nonce ≡ Ok given
@@ -58,8 +59,8 @@ pub fn effect_is_stored()
         → stored_after stored given id ≡ Some old }
 {}
 
-/// A bound arrow's end names the target, and the target lists the arrow; what the end alone named before, if it is
-/// another element, doesn't list it. All else stays.
+/// A bound arrow's end names the target, and the target lists the arrow; what the end alone named
+/// before, if it is another element, doesn't list it. All else stays.
 pub fn bind_links_both_ways()
     ensures names { (stored shown given : List ElementValue) (arrow : List ℕ) (side : Side)
         (target : List ℕ) (rest : List Member) (time nonce : ℕ)
@@ -95,7 +96,8 @@ pub fn bind_links_both_ways()
         → Stays stored given id }
 {}
 
-/// An arrow's end that is unbound names nothing, and what it alone named doesn't list the arrow. All else stays.
+/// An arrow's end that is unbound names nothing, and what it alone named doesn't list the arrow.
+/// All else stays.
 pub fn unbind_frees_the_end()
     ensures freed { (stored shown given : List ElementValue) (arrow : List ℕ) (side : Side)
         (time nonce : ℕ)
@@ -123,8 +125,8 @@ pub fn unbind_frees_the_end()
         → Stays stored given id }
 {}
 
-/// Each element that is to be deleted is given as a deleted one, and no live element that is stored then names one of
-/// them. A live one loses those names alone, and all else stays.
+/// Each element that is to be deleted is given as a deleted one, and no live element that is stored
+/// then names one of them. A live one loses those names alone, and all else stays.
 pub fn delete_leaves_no_names()
     ensures given { (stored shown given : List ElementValue) (ids : List (List ℕ)) (time nonce : ℕ)
         → are_rising (ids_of stored) ≡ true
@@ -159,7 +161,8 @@ pub fn delete_leaves_no_names()
         → Stays stored given id }
 {}
 
-/// The key at a spot lies strictly between the keys beside it, and a new element and one that is placed have such keys.
+/// The key at a spot lies strictly between the keys beside it, and a new element and one that is
+/// placed have such keys.
 pub fn key_lies_at_its_spot()
     ensures key { (shown : List ElementValue) (spot : Spot) (except old : Option (List ℕ))
         → HaveRisingKeys shown → HaveKeysOrNone shown
@@ -178,8 +181,8 @@ pub fn key_lies_at_its_spot()
         (λ e. lies_within (gap_of shown spot (Some id)) e.index ≡ true) }
 {}
 
-/// Beside its place a create makes what was asked for, and a place changes nothing; each other live element has its key
-/// of the view, and is else as it was.
+/// Beside its place a create makes what was asked for, and a place changes nothing; each other live
+/// element has its key of the view, and is else as it was.
 pub fn new_keys_change_nothing_else()
     ensures created { (stored shown given : List ElementValue) (element : ElementValue)
         (spot : Spot) (time nonce : ℕ)
@@ -210,8 +213,8 @@ pub fn new_keys_change_nothing_else()
         (λ e. unstamped e ≡ unstamped (with_view_key shown old)) }
 {}
 
-/// Copies stand between the keys beside the spot, one above the other in the order of their originals, and are else the
-/// copies of these under the prefix.
+/// Copies stand between the keys beside the spot, one above the other in the order of their
+/// originals, and are else the copies of these under the prefix.
 pub fn copies_stand_at_their_spot()
     ensures rise { (shown : List ElementValue) (spot : Spot) (count : ℕ)
         → HaveRisingKeys shown → HaveKeysOrNone shown
@@ -227,8 +230,8 @@ pub fn copies_stand_at_their_spot()
         ≡ map unplaced (copies_of list prefix) }
 {}
 
-/// After a duplicate the copies of the shown elements that were named are stored, and after a paste those of the given
-/// ones; nothing was stored with their ids.
+/// After a duplicate the copies of the shown elements that were named are stored, and after a paste
+/// those of the given ones; nothing was stored with their ids.
 pub fn copies_are_stored()
     ensures duplicated { (stored shown given : List ElementValue) (ids : List (List ℕ))
         (prefix : List ℕ) (spot : Spot) (time nonce : ℕ)
@@ -245,8 +248,8 @@ pub fn copies_are_stored()
         → (element_of stored copy.id ≡ None) × (stored_after stored given copy.id ≡ Some copy) }
 {}
 
-/// Beside the copies each live element has its key of the view, and is else as it was; what has that key stays, its
-/// stamp too; and where nothing is copied, all stays.
+/// Beside the copies each live element has its key of the view, and is else as it was; what has
+/// that key stays, its stamp too; and where nothing is copied, all stays.
 pub fn copies_change_nothing_else()
     ensures duplicated { (stored shown given : List ElementValue) (ids : List (List ℕ))
         (prefix : List ℕ) (spot : Spot) (time nonce : ℕ)
@@ -254,7 +257,8 @@ pub fn copies_change_nothing_else()
         → outcome stored shown (commands.Duplicate ids prefix spot) time nonce ≡ Ok given
         → (id : List ℕ) (old : ElementValue) → element_of stored id ≡ Some old → is_live old ≡ true
         → IsSomeAnd (stored_after stored given id)
-        (λ e. unstamped e ≡ unstamped (with_view_key (settled_for (shown_among ids shown) shown) old)) }
+        (λ e. unstamped e ≡ unstamped (with_view_key (settled_for (shown_among ids shown) shown)
+        old)) }
     ensures pasted { (stored shown given elements : List ElementValue) (prefix : List ℕ)
         (spot : Spot) (time nonce : ℕ)
         → are_rising (ids_of stored) ≡ true
@@ -287,8 +291,9 @@ pub fn copies_change_nothing_else()
         → (id : List ℕ) → Stays stored given id }
 {}
 
-/// After a label the text names the container, no other live element does, and of texts the container lists this one
-/// alone; what the text named before, if it is another element, doesn't list it. All else stays.
+/// After a label the text names the container, no other live element does, and of texts the
+/// container lists this one alone; what the text named before, if it is another element, doesn't
+/// list it. All else stays.
 pub fn label_joins_text_and_container()
     ensures names { (stored shown given : List ElementValue) (container text : List ℕ)
         (time nonce : ℕ)
@@ -352,8 +357,8 @@ pub fn unlabel_parts_text_and_container()
         → (id : List ℕ) → id ≢ text → old_container stored text ≢ Some id → Stays stored given id }
 {}
 
-/// A set changes one member of one element: it has the value, or the default for null; each other member and each other
-/// element stays.
+/// A set changes one member of one element: it has the value, or the default for null; each other
+/// member and each other element stays.
 pub fn set_changes_one_member()
     ensures given { (stored shown given : List ElementValue) (id member value : List ℕ)
         (time nonce : ℕ)
@@ -409,7 +414,8 @@ pub fn unframe_takes_out_of_frames()
         → (id : List ℕ) → is_among ids id ≡ false → Stays stored given id }
 {}
 
-/// After a group each named element has the group, as the last one where it was missing, and nothing else changes.
+/// After a group each named element has the group, as the last one where it was missing, and
+/// nothing else changes.
 pub fn group_adds_one_group()
     ensures grouped { (stored shown given : List ElementValue) (ids : List (List ℕ))
         (group : List ℕ) (time nonce : ℕ)
@@ -431,7 +437,8 @@ pub fn group_adds_one_group()
         → (id : List ℕ) → is_among ids id ≡ false → Stays stored given id }
 {}
 
-/// After an ungroup no named element has the group; its other groups stay in their order, and nothing else changes.
+/// After an ungroup no named element has the group; its other groups stay in their order, and
+/// nothing else changes.
 pub fn ungroup_drops_one_group()
     ensures gone { (stored shown given : List ElementValue) (ids : List (List ℕ)) (group : List ℕ)
         (time nonce : ℕ)

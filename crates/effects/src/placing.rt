@@ -123,7 +123,8 @@ pub(crate) fn with_index(mut e: Element, index: Option<Key>) -> Element
     e
 }
 
-/// The element with its key among these, or, if it is of the id, with this one; or None where it has that.
+/// The element with its key among these, or, if it is of the id, with this one; or None where it
+/// has that.
 pub(crate) fn placed(
     keys: &Keys,
     id: &Text,
@@ -139,7 +140,8 @@ pub(crate) fn placed(
     settled(keys, e)
 }
 
-/// A key at a spot among the shown elements but the one of this id, if one is given: the old one if it stands there.
+/// A key at a spot among the shown elements but the one of this id, if one is given: the old one if
+/// it stands there.
 pub(crate) fn key_at(
     alloc: Global,
     lookup: &Lookup<'_>,
@@ -225,7 +227,8 @@ pub(crate) fn gap_at<'a>(lookup: &Lookup<'a>, spot: &Spot, except: Option<&Text>
 
 /// The key of the first of the elements but the one of this id.
 fn first_key<'a>(elements: &'a [SharedElement], except: Option<&Text>) -> Option<&'a Key>
-    ensures { option_copied result ≡ placing.first_key (others (option_copied except.entry) elements.now) }
+    ensures { option_copied result
+        ≡ placing.first_key (others (option_copied except.entry) elements.now) }
 {
     let mut rest = elements;
     while let Some((e, behind)) = rest.split_first() {
@@ -239,7 +242,8 @@ fn first_key<'a>(elements: &'a [SharedElement], except: Option<&Text>) -> Option
 
 /// The key of the last of the elements but the one of this id.
 fn last_key<'a>(elements: &'a [SharedElement], except: Option<&Text>) -> Option<&'a Key>
-    ensures { option_copied result ≡ placing.last_key (others (option_copied except.entry) elements.now) }
+    ensures { option_copied result
+        ≡ placing.last_key (others (option_copied except.entry) elements.now) }
 {
     let mut rest = elements;
     while let Some((e, before)) = rest.split_last() {
@@ -251,13 +255,16 @@ fn last_key<'a>(elements: &'a [SharedElement], except: Option<&Text>) -> Option<
     None
 }
 
-/// The keys of a shown element and of the one above it, among the shown elements but the one of this id.
+/// The keys of a shown element and of the one above it, among the shown elements but the one of
+/// this id.
 fn gap_above<'a>(lookup: &Lookup<'a>, below: &Text, except: Option<&Text>) -> Gap<'a>
     requires { IsLookup lookup.now }
     ensures low { option_copied result.low
-        ≡ (placing.gap_above below.now (others (option_copied except.entry) lookup.now.shown.now)).low }
+        ≡ (placing.gap_above below.now
+        (others (option_copied except.entry) lookup.now.shown.now)).low }
     ensures high { option_copied result.high
-        ≡ (placing.gap_above below.now (others (option_copied except.entry) lookup.now.shown.now)).high }
+        ≡ (placing.gap_above below.now
+        (others (option_copied except.entry) lookup.now.shown.now)).high }
     ensures rises { ends_rise (option_copied result.low) (option_copied result.high) ≡ true }
 {
     match shown_place(lookup, below) {
@@ -279,11 +286,13 @@ fn is_excepted(id: &Text, except: Option<&Text>) -> bool
     }
 }
 
-/// The key of the element at a place, and that of the one above it, among the elements but the one of this id.
+/// The key of the element at a place, and that of the one above it, among the elements but the one
+/// of this id.
 fn gap_over<'a>(elements: &'a [SharedElement], i: usize, except: Option<&Text>) -> Gap<'a>
     requires keys { HaveRisingKeys elements.now }
     requires within { i < length elements.now }
-    ensures low { (e : ElementValue) → slice_get elements.now i ≡ Some e → option_copied result.low ≡ e.index }
+    ensures low { (e : ElementValue) → slice_get elements.now i ≡ Some e
+        → option_copied result.low ≡ e.index }
     ensures high { option_copied result.high
         ≡ placing.first_key (others (option_copied except.entry) (drop (i + 1) elements.now)) }
     ensures rises { ends_rise (option_copied result.low) (option_copied result.high) ≡ true }

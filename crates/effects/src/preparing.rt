@@ -43,7 +43,8 @@ pub(crate) fn prepared(
     requires open { guarded command.now ≡ None }
     requires limits { IsWithinLimits command.now }
     requires lookup { IsLookup lookup.now }
-    ensures { IfOk result (Prepares lookup.now.store.now.elements lookup.now.shown.now command.now) }
+    ensures { IfOk result (Prepares lookup.now.store.now.elements lookup.now.shown.now
+        command.now) }
 {
     let store = lookup.store;
     match command {
@@ -81,7 +82,8 @@ fn settle(
 ) -> Result<Effect, AllocError>
     requires { IsLookup lookup.now }
     ensures { IfOk result
-        (Prepares lookup.now.store.now.elements lookup.now.shown.now (commands.Create element.now spot.now)) }
+        (Prepares lookup.now.store.now.elements lookup.now.shown.now
+        (commands.Create element.now spot.now)) }
 {
     let keys = keys_among(alloc, lookup.unsettled, lookup.shown)?;
     Ok(Effect::Settle { keys })
@@ -94,9 +96,11 @@ fn settle_for(
     originals: &List<Element>,
 ) -> Result<Effect, AllocError>
     requires { IsLookup lookup.now }
-    ensures exact { IfOk result (λ made. (e : ElementValue) → Contains lookup.now.store.now.elements e
+    ensures exact { IfOk result (λ made. (e : ElementValue)
+        → Contains lookup.now.store.now.elements e
         → is_live e ≡ true
-        → made_by made e ≡ with_view_key (copying.settled_for originals.now lookup.now.shown.now) e) }
+        → made_by made e ≡ with_view_key (copying.settled_for originals.now lookup.now.shown.now)
+        e) }
     ensures sound { IfOk result IsSoundEffect }
     ensures live { IfOk result (λ made. DeletesLive made lookup.now.store.now.elements) }
 {
@@ -111,7 +115,8 @@ fn keys_for(
     originals: &List<Element>,
 ) -> Result<Keys, AllocError>
     ensures { IfOk result (λ keys. HasKeys keys
-        (copying.settled_for originals.now (elements_among lookup.now.unsettled.now lookup.now.shown.now))) }
+        (copying.settled_for originals.now
+        (elements_among lookup.now.unsettled.now lookup.now.shown.now))) }
 {
     if originals.as_slice().is_empty() {
         return Ok(BTreeMap::new(alloc));
@@ -196,7 +201,8 @@ pub(crate) fn set_of(alloc: Global, ids: &List<Text>) -> Result<BTreeSet<Text>, 
 fn place(alloc: Global, lookup: &Lookup<'_>, id: &Text, spot: &Spot) -> Result<Effect, AllocError>
     requires { IsLookup lookup.now }
     ensures { IfOk result
-        (Prepares lookup.now.store.now.elements lookup.now.shown.now (commands.Place id.now spot.now)) }
+        (Prepares lookup.now.store.now.elements lookup.now.shown.now
+        (commands.Place id.now spot.now)) }
 {
     let keys = keys_among(alloc, lookup.unsettled, lookup.shown)?;
     let old = shown_key(lookup, id)?;

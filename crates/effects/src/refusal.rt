@@ -2,8 +2,8 @@
 
 use json_text::Text;
 
-/// Why a command changes nothing. Of several causes the first of this order is told, and for one cause the first id in
-/// the order of the command's fields.
+/// Why a command changes nothing. Of several causes the first of this order is told, and for one
+/// cause the first id in the order of the command's fields.
 pub enum Refusal {
     /// The id of a new element is stored, maybe as deleted.
     Exists(Text),
@@ -13,7 +13,8 @@ pub enum Refusal {
     WrongKind(Text),
     /// The member has a command of its own, or none.
     Protected(Text),
-    /// The element of this id would change and has the greatest version; it is the least of such ids.
+    /// The element of this id would change and has the greatest version; it is the least of such
+    /// ids.
     VersionFull(Text),
 }
 

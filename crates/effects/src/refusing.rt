@@ -36,7 +36,8 @@ pub(crate) fn check(
         (refusal_of lookup.now.store.now.elements lookup.now.shown.now command.now ≡ None) }
     ensures refused { IfErr result
         (λ stop. OnFault stop (λ refusal.
-        refusal_of lookup.now.store.now.elements lookup.now.shown.now command.now ≡ Some refusal)) }
+        refusal_of lookup.now.store.now.elements lookup.now.shown.now command.now
+        ≡ Some refusal)) }
 {
     let store = lookup.store;
     check_new(alloc, store, command)?;
@@ -49,7 +50,8 @@ pub(crate) fn check(
 fn check_new(alloc: Global, store: &Store, command: &Command) -> Result<(), Stop<Refusal>>
     ensures ok { OnOk result (existing store.now.elements command.now ≡ None) }
     ensures refused { IfErr result
-        (λ stop. OnFault stop (λ refusal. existing store.now.elements command.now ≡ Some refusal)) }
+        (λ stop. OnFault stop (λ refusal. existing store.now.elements command.now
+        ≡ Some refusal)) }
 {
     match command {
         Command::Create { element, .. } => check_absent(store, id_of(element)?),
@@ -199,10 +201,12 @@ fn check_ids_and(store: &Store, ids: &List<Text>, id: &Text) -> Result<(), Stop<
 
 /// Fails at the first of these ids, and of that which a spot names, that isn't live.
 fn check_ids_at(store: &Store, ids: &List<Text>, spot: &Spot) -> Result<(), Stop<Refusal>>
-    ensures ok { OnOk result (first_missing store.now.elements (ids.now ++ spot_ids spot.now) ≡ None) }
+    ensures ok { OnOk result (first_missing store.now.elements (ids.now ++ spot_ids spot.now)
+        ≡ None) }
     ensures refused { IfErr result
         (λ stop. OnFault stop
-        (λ refusal. first_missing store.now.elements (ids.now ++ spot_ids spot.now) ≡ Some refusal)) }
+        (λ refusal. first_missing store.now.elements (ids.now ++ spot_ids spot.now)
+        ≡ Some refusal)) }
 {
     check_ids(store, ids)?;
     check_spot(store, spot)
@@ -221,7 +225,8 @@ fn check_spot(store: &Store, spot: &Spot) -> Result<(), Stop<Refusal>>
     }
 }
 
-/// Fails where an element that gets a place, or the one that it is placed above, isn't live, or where they are one.
+/// Fails where an element that gets a place, or the one that it is placed above, isn't live, or
+/// where they are one.
 fn check_place(store: &Store, id: &Text, spot: &Spot) -> Result<(), Stop<Refusal>>
     ensures ok { OnOk result (missing store.now.elements (commands.Place id.now spot.now) ≡ None) }
     ensures refused { IfErr result

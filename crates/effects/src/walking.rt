@@ -25,8 +25,8 @@ use json_text::Text;
 use std::alloc::{AllocError, Global};
 use std::collections::BTreeSet;
 
-/// The changed elements of an effect that leaves all but the elements of these ids as they are, in the order of their
-/// ids.
+/// The changed elements of an effect that leaves all but the elements of these ids as they are, in
+/// the order of their ids.
 pub(crate) fn changes_of(
     alloc: Global,
     store: &Store,
@@ -71,8 +71,10 @@ fn change_at(
     requires nonce { nonce ≤ greatest_whole }
     requires sound { IsSoundEffect effect.now }
     ensures changed { IfOk result
-        (λ new. new ≡ concerning.change_at store.now.elements (made_by effect.now) time nonce id.now) }
-    ensures free { IfOk result (λ _. is_full_at store.now.elements (made_by effect.now) id.now ≡ false) }
+        (λ new. new ≡ concerning.change_at store.now.elements (made_by effect.now) time nonce
+        id.now) }
+    ensures free { IfOk result (λ _. is_full_at store.now.elements (made_by effect.now) id.now
+        ≡ false) }
     ensures full { IfErr result
         (λ stop. OnFault stop (λ refusal.
         (is_full_at store.now.elements (made_by effect.now) id.now ≡ true)
@@ -125,7 +127,8 @@ fn change_of(
 fn changed(alloc: Global, effect: &Effect, e: &Element) -> Result<Option<Element>, AllocError>
     requires sound { IsSoundEffect effect.now }
     ensures { IfOk result
-        (λ new. new ≡ (if differs e.now (made_by effect.now e.now) then Some (made_by effect.now e.now) else None)) }
+        (λ new. new ≡ (if differs e.now (made_by effect.now e.now) then Some
+        (made_by effect.now e.now) else None)) }
 {
     let Some(new) = effect.apply(alloc, e)? else {
         return Ok(None);

@@ -26,7 +26,8 @@ use Rattle.elem.proofs.Sorting.{IsRising, IsRising-from, less_is}
 bytes_eq-less : (a b : List ℕ) → bytes_less a b ≡ true → bytes_eq a b ≡ false
 bytes_eq-less a b h = texts_ties a b ∙ ap is_eq (less_is (slice_cmp nat_cmp a b) h)
 
-apart_from_rising : (name : List ℕ) (ms : List Pair) → AllByRecursion (λ (m : Pair). bytes_less name m.0 ≡ true) ms → AllByRecursion (λ y. bytes_eq name y ≡ false) (names_of ms)
+apart_from_rising : (name : List ℕ) (ms : List Pair) → AllByRecursion (λ (m : Pair). bytes_less name m.0 ≡ true) ms
+    → AllByRecursion (λ y. bytes_eq name y ≡ false) (names_of ms)
 apart_from_rising name [] h = tt
 apart_from_rising name (m ∷ ms) h = (bytes_eq-less name m.0 h.0, apart_from_rising name ms h.1)
 
@@ -41,24 +42,30 @@ IsDistinct-names members rise =
     subst (IsDistinct bytes_eq) (names-pairs members)
     (IsDistinct-rising (pairs members) (IsRising-from (pairs members) (ap are_rising (names-pairs members) ∙ rise)))
 
-pub AllByRecursion-append : {X : Type 0} (P : X → Type 0) (xs ys : List X) → AllByRecursion P xs → AllByRecursion P ys → AllByRecursion P (xs ++ ys)
+pub AllByRecursion-append : {X : Type 0} (P : X → Type 0) (xs ys : List X) → AllByRecursion P xs → AllByRecursion P ys
+    → AllByRecursion P (xs ++ ys)
 AllByRecursion-append P [] ys left right = right
 AllByRecursion-append P (x ∷ xs) ys left right = (left.0, AllByRecursion-append P xs ys left.1 right)
 
-first_apart : (x : List ℕ) (xs ys : List (List ℕ)) → AllByRecursion (λ y. list_any (bytes_eq y) (x ∷ xs) ≡ false) ys → AllByRecursion (λ y. bytes_eq x y ≡ false) ys
+first_apart : (x : List ℕ) (xs ys : List (List ℕ)) → AllByRecursion (λ y. list_any (bytes_eq y) (x ∷ xs) ≡ false) ys
+    → AllByRecursion (λ y. bytes_eq x y ≡ false) ys
 first_apart x xs [] h = tt
 first_apart x xs (y ∷ ys) h = (nat_list_eq_equiv.symm x y ∙ (or_parts _ _ h.0).0, first_apart x xs ys h.1)
 
-others_apart : (x : List ℕ) (xs ys : List (List ℕ)) → AllByRecursion (λ y. list_any (bytes_eq y) (x ∷ xs) ≡ false) ys → AllByRecursion (λ y. list_any (bytes_eq y) xs ≡ false) ys
+others_apart : (x : List ℕ) (xs ys : List (List ℕ)) → AllByRecursion (λ y. list_any (bytes_eq y) (x ∷ xs) ≡ false) ys
+    → AllByRecursion (λ y. list_any (bytes_eq y) xs ≡ false) ys
 others_apart x xs [] h = tt
 others_apart x xs (y ∷ ys) h = ((or_parts _ _ h.0).1, others_apart x xs ys h.1)
 
 -- distinct names, and others that are none of them
-IsDistinct-append : (xs ys : List (List ℕ)) → IsDistinct bytes_eq xs → IsDistinct bytes_eq ys → AllByRecursion (λ y. list_any (bytes_eq y) xs ≡ false) ys → IsDistinct bytes_eq (xs ++ ys)
+IsDistinct-append : (xs ys : List (List ℕ)) → IsDistinct bytes_eq xs → IsDistinct bytes_eq ys
+    → AllByRecursion (λ y. list_any (bytes_eq y) xs ≡ false) ys → IsDistinct bytes_eq (xs ++ ys)
 unfolding IsDistinct
 IsDistinct-append [] ys left right apart = right
-IsDistinct-append (x ∷ xs) ys left right apart =
-    (AllByRecursion-append _ xs ys left.0 (first_apart x xs ys apart), IsDistinct-append xs ys left.1 right (others_apart x xs ys apart))
+IsDistinct-append (x ∷ xs) ys left right apart = (
+  AllByRecursion-append _ xs ys left.0 (first_apart x xs ys apart),
+  IsDistinct-append xs ys left.1 right (others_apart x xs ys apart),
+)
 
 -- ---- the header names of a kind
 pub IsDistinct-header : (kind : Kind) → IsDistinct bytes_eq (header_names ++ own_names kind)
@@ -94,21 +101,26 @@ names_of-own e (Other name) = refl
 pub names_of-header : (e : ElementValue) → names_of (header_members e) ≡ header_names ++ own_names e.kind
 names_of-header e = ap (λ own. header_names ++ own) (names_of-own e e.kind)
 
-not_header : (kind : Kind) (ys : List (List ℕ)) → AllByRecursion (λ y. is_header kind y ≡ false) ys → AllByRecursion (λ y. list_any (bytes_eq y) (header_names ++ own_names kind) ≡ false) ys
+not_header : (kind : Kind) (ys : List (List ℕ)) → AllByRecursion (λ y. is_header kind y ≡ false) ys
+    → AllByRecursion (λ y. list_any (bytes_eq y) (header_names ++ own_names kind) ≡ false) ys
 not_header kind [] h = tt
 not_header kind (y ∷ ys) h = (list_any-append (bytes_eq y) header_names (own_names kind) ∙ h.0, not_header kind ys h.1)
 
 -- ---- the names of an element's members, and of a binding's
-pub IsDistinct-element : (e : ElementValue) → IsElement e → IsDistinct bytes_eq (names_of (header_members e ++ pairs e.rest))
+pub IsDistinct-element : (e : ElementValue) → IsElement e
+    → IsDistinct bytes_eq (names_of (header_members e ++ pairs e.rest))
 IsDistinct-element e is =
     let named : names_of (header_members e ++ pairs e.rest) ≡ (header_names ++ own_names e.kind) ++ names e.rest =
-    map-append name_of (header_members e) (pairs e.rest) ∙ ap (λ own. own ++ names_of (pairs e.rest)) (names_of-header e)
+    map-append name_of (header_members e) (pairs e.rest)
+    ∙ ap (λ own. own ++ names_of (pairs e.rest)) (names_of-header e)
     ∙ ap (λ others. (header_names ++ own_names e.kind) ++ others) (names-pairs e.rest) in
     subst (IsDistinct bytes_eq) (sym named)
-    (IsDistinct-append (header_names ++ own_names e.kind) (names e.rest) (IsDistinct-header e.kind) (IsDistinct-names e.rest is.rise)
+    (IsDistinct-append (header_names ++ own_names e.kind) (names e.rest) (IsDistinct-header e.kind)
+    (IsDistinct-names e.rest is.rise)
     (not_header e.kind (names e.rest) (none_passes (is_header e.kind) (names e.rest) is.free)))
 
-pub IsDistinct-binding : (binding : Binding) → IsBinding binding → IsDistinct bytes_eq (codes "elementId" ∷ names binding.rest)
+pub IsDistinct-binding : (binding : Binding) → IsBinding binding
+    → IsDistinct bytes_eq (codes "elementId" ∷ names binding.rest)
 unfolding IsDistinct
 IsDistinct-binding binding is =
     (none_passes (bytes_eq (codes "elementId")) (names binding.rest) is.free, IsDistinct-names binding.rest is.rise)

@@ -29,7 +29,8 @@ use Rattle.elem.proofs.Sorting.{IsRising, IsRising-from, less_is}
 
 -- ---- texts, numbers, truths
 pub text-once : (found : Option (List ℕ)) (a b : List ℕ) → IsText found a → IsText found b → a ≡ b
-text-once found a b one two = let same : quote a ≡ quote b = let e = one.1 in let f = two.1 in cc in quote-once a b one.0 two.0 same
+text-once found a b one two =
+    let same : quote a ≡ quote b = let e = one.1 in let f = two.1 in cc in quote-once a b one.0 two.0 same
 
 pub whole-once : (found : Option (List ℕ)) (a b : ℕ) → IsWholeNumber found a → IsWholeNumber found b → a ≡ b
 whole-once found a b one two =
@@ -43,11 +44,14 @@ whole-once found a b one two =
 pub truth-once : (found : Option (List ℕ)) (a b : Bool) → IsTruth found a → IsTruth found b → a ≡ b
 truth-once found true true one two = refl
 truth-once found false false one two = refl
-truth-once found true false one two = let same : true_word ≡ false_word = cc in absurd (heads-differ 116 102 _ _ refl same)
-truth-once found false true one two = let same : true_word ≡ false_word = cc in absurd (heads-differ 116 102 _ _ refl same)
+truth-once found true false one two =
+    let same : true_word ≡ false_word = cc in absurd (heads-differ 116 102 _ _ refl same)
+truth-once found false true one two =
+    let same : true_word ≡ false_word = cc in absurd (heads-differ 116 102 _ _ refl same)
 
 -- ---- null
-null-apart : (found : Option (List ℕ)) (value : List ℕ) (first : ℕ) → IsNull found → found ≡ Some value → StartsWith first value → first ≢ 110 → ⊥
+null-apart : (found : Option (List ℕ)) (value : List ℕ) (first : ℕ) → IsNull found → found ≡ Some value
+    → StartsWith first value → first ≢ 110 → ⊥
 null-apart found value first (inl none) is starts other = cc
 null-apart found value first (inr null) is starts other =
     let same : null_word ≡ first ∷ starts.0 = let e = starts.1 in cc in
@@ -56,12 +60,14 @@ null-apart found value first (inr null) is starts other =
 pub null-no-text : (found : Option (List ℕ)) (text : List ℕ) → IsNull found → IsText found text → ⊥
 null-no-text found text null is = null-apart found (quote text) 34 null is.1 (quote-starts text) (λ e. omega arith)
 
-pub null-no-object : (found : Option (List ℕ)) (value : List ℕ) (members : List Pair) → IsNull found → found ≡ Some value → IsObject value members → ⊥
+pub null-no-object : (found : Option (List ℕ)) (value : List ℕ) (members : List Pair) → IsNull found
+    → found ≡ Some value → IsObject value members → ⊥
 null-no-object found value members null is object =
     let starts = object-starts members in
     null-apart found value 123 null is (starts.0, object.spelled ∙ starts.1) (λ e. omega arith)
 
-pub text_or_null-once : (found : Option (List ℕ)) (a b : Option (List ℕ)) → IsTextOrNull found a → IsTextOrNull found b → a ≡ b
+pub text_or_null-once : (found : Option (List ℕ)) (a b : Option (List ℕ)) → IsTextOrNull found a → IsTextOrNull found b
+    → a ≡ b
 text_or_null-once found None None one two = refl
 text_or_null-once found None (Some b) one two = absurd (null-no-text found b one two)
 text_or_null-once found (Some a) None one two = absurd (null-no-text found a two one)
@@ -72,13 +78,15 @@ no_key found b (inl null) two = null-no-text found b null two.0
 no_key found b (inr (text, is, other)) two =
     both_ways _ other (ap is_key (text-once found text b is two.0) ∙ two.1)
 
-pub key_or_null-once : (found : Option (List ℕ)) (a b : Option (List ℕ)) → IsKeyOrNull found a → IsKeyOrNull found b → a ≡ b
+pub key_or_null-once : (found : Option (List ℕ)) (a b : Option (List ℕ)) → IsKeyOrNull found a → IsKeyOrNull found b
+    → a ≡ b
 key_or_null-once found None None one two = refl
 key_or_null-once found None (Some b) one two = absurd (no_key found b one two)
 key_or_null-once found (Some a) None one two = absurd (no_key found a two one)
 key_or_null-once found (Some a) (Some b) one two = ap Some (text-once found a b one.0 two.0)
 
-pub quotes-compact : (limit : ℕ) (texts : List (List ℕ)) → AllByRecursion IsUtf8 texts → AllByRecursion (IsCompact limit) (map quote texts)
+pub quotes-compact : (limit : ℕ) (texts : List (List ℕ)) → AllByRecursion IsUtf8 texts
+    → AllByRecursion (IsCompact limit) (map quote texts)
 quotes-compact limit [] is = tt
 quotes-compact limit (t ∷ ts) is = (quote-compact limit t is.0, quotes-compact limit ts is.1)
 
@@ -87,7 +95,8 @@ texts-once found xs ys one two =
     let e = one.1 in
     let f = two.1 in
     let same : array_text (map quote xs) ≡ array_text (map quote ys) = cc in
-    quotes-once xs ys one.0 two.0 (array-once (map quote xs) (map quote ys) (quotes-compact 127 xs one.0) (quotes-compact 127 ys two.0) same)
+    quotes-once xs ys one.0 two.0 (array-once (map quote xs) (map quote ys) (quotes-compact 127 xs one.0)
+    (quotes-compact 127 ys two.0) same)
 
 -- ---- kinds and roles
 -- the kind of a name: the first of these that has it, or another one
@@ -97,9 +106,11 @@ kind_among (kind ∷ kinds) name = if bytes_eq name (kind_name kind) then kind e
 
 abbrev known_kinds : List Kind
 known_kinds =
-    Rectangle ∷ Diamond ∷ Ellipse ∷ Arrow ∷ Line ∷ Freedraw ∷ Text ∷ Image ∷ Frame ∷ Magicframe ∷ Iframe ∷ Embeddable ∷ []
+    Rectangle ∷ Diamond ∷ Ellipse ∷ Arrow ∷ Line ∷ Freedraw ∷ Text ∷ Image ∷ Frame ∷ Magicframe ∷ Iframe ∷ Embeddable
+    ∷ []
 
-other_among : (kinds : List Kind) (more : List (List ℕ)) (name : List ℕ) → list_any (bytes_eq name) (map kind_name kinds ++ more) ≡ false → kind_among kinds name ≡ Other name
+other_among : (kinds : List Kind) (more : List (List ℕ)) (name : List ℕ)
+    → list_any (bytes_eq name) (map kind_name kinds ++ more) ≡ false → kind_among kinds name ≡ Other name
 other_among [] more name h = refl
 other_among (kind ∷ kinds) more name h =
     let parts = or_parts (bytes_eq name (kind_name kind)) (list_any (bytes_eq name) (map kind_name kinds ++ more)) h in
@@ -139,13 +150,16 @@ members-once value ms ns one two = object-once ms ns one.are_members two.are_mem
 entry-once : (item : List ℕ) (a b : BoundRef) → IsListingEntry item a → IsListingEntry item b → a ≡ b
 entry-once item a b one two =
     let same = members-once item one.members two.members one.object two.object in
-    let id : IsText (value_at (codes "id") one.members) b.id = subst (λ ms. IsText (value_at (codes "id") ms) b.id) (sym same) two.id in
-    let role : IsText (value_at (codes "type") one.members) (role_name b.role) = subst (λ ms. IsText (value_at (codes "type") ms) (role_name b.role)) (sym same) two.role in
+    let id : IsText (value_at (codes "id") one.members) b.id =
+    subst (λ ms. IsText (value_at (codes "id") ms) b.id) (sym same) two.id in
+    let role : IsText (value_at (codes "type") one.members) (role_name b.role) =
+    subst (λ ms. IsText (value_at (codes "type") ms) (role_name b.role)) (sym same) two.role in
     let ids = text-once _ a.id b.id one.id id in
     let roles = role_of_name-once a.role b.role (text-once _ _ _ one.role role) in
     λ i. record { id = ids i; role = roles i }
 
-entries-once : (items : List (List ℕ)) (xs ys : List BoundRef) → AreListingEntries items xs → AreListingEntries items ys → xs ≡ ys
+entries-once : (items : List (List ℕ)) (xs ys : List BoundRef) → AreListingEntries items xs → AreListingEntries items ys
+    → xs ≡ ys
 entries-once [] xs ys one two = one ∙ sym two
 entries-once (item ∷ items) xs ys (inl (x, more, is, entry, others)) (inl (y, rest, are, other, next)) =
     is ∙ (ap₂ (λ z zs. z ∷ zs) (entry-once item x y entry other) (entries-once items more rest others next) ∙ sym are)
@@ -169,14 +183,17 @@ rising-names (m ∷ ms) rise = rising_from m ms (below m ms rise.0) (rising-name
     below m (n ∷ ns) h = (less_is _ h.0, below m ns h.1)
 
 pub names-rise : (others : List Member) → are_rising (names others) ≡ true → HaveRisingNames (pairs others)
-names-rise others rise = rising-names (pairs others) (IsRising-from (pairs others) (ap are_rising (names-pairs others) ∙ rise))
+names-rise others rise =
+    rising-names (pairs others) (IsRising-from (pairs others) (ap are_rising (names-pairs others) ∙ rise))
 
 -- a name that none of the members has, since the test tells it from theirs
-pub value_at-free : (test : List ℕ → Bool) (name : List ℕ) (others : List Member) → list_any test (names others) ≡ false → test name ≡ true → value_at name (pairs others) ≡ None
+pub value_at-free : (test : List ℕ → Bool) (name : List ℕ) (others : List Member) → list_any test (names others) ≡ false
+    → test name ≡ true → value_at name (pairs others) ≡ None
 value_at-free test name [] free passes = refl
 value_at-free test name (m ∷ ms) free passes =
     let parts = or_parts (test m.name) (list_any test (names ms)) free in
-    let apart : bytes_eq name m.name ≡ false = bytes_eq-apart name m.name (λ e. both_ways (test m.name) parts.0 (ap test (sym e) ∙ passes)) in
+    let apart : bytes_eq name m.name ≡ false =
+    bytes_eq-apart name m.name (λ e. both_ways (test m.name) parts.0 (ap test (sym e) ∙ passes)) in
     lookup_tail (bytes_eq name) (m.name, m.value) (pairs ms) apart ∙ value_at-free test name ms parts.1 passes
 
 pairs-once : (xs ys : List Member) → pairs xs ≡ pairs ys → xs ≡ ys
@@ -191,9 +208,11 @@ pairs-once (x ∷ xs) (y ∷ ys) e =
     head_or [] p = p
     head_or (q ∷ qs) p = q
 
-pub others-once : (test : List ℕ → Bool) (find : Find) (xs ys : List Member) → AreOthers test find xs → AreOthers test find ys → xs ≡ ys
+pub others-once : (test : List ℕ → Bool) (find : Find) (xs ys : List Member) → AreOthers test find xs
+    → AreOthers test find ys → xs ≡ ys
 others-once test find xs ys one two =
-    pairs-once xs ys (rising_same (pairs xs) (pairs ys) (names-rise xs one.rise) (names-rise ys two.rise) (λ name. at name (test name) refl))
+    pairs-once xs ys (rising_same (pairs xs) (pairs ys) (names-rise xs one.rise) (names-rise ys two.rise)
+    (λ name. at name (test name) refl))
   where
     at : (name : List ℕ) (b : Bool) → test name ≡ b → value_at name (pairs xs) ≡ value_at name (pairs ys)
     at name true h = value_at-free test name xs one.free h ∙ sym (value_at-free test name ys two.free h)
@@ -205,11 +224,16 @@ bound-once found a b one two =
     let e = one.found_is in
     let f = two.found_is in
     let value : one.value ≡ two.value = cc in
-    let same = members-once one.value one.members two.members one.object (subst (λ v. IsObject v two.members) (sym value) two.object) in
-    let target : IsText (value_at (codes "elementId") one.members) b.target = subst (λ ms. IsText (value_at (codes "elementId") ms) b.target) (sym same) two.target in
-    let rest : AreOthers (bytes_eq (codes "elementId")) (λ name. value_at name one.members) b.rest = subst (λ (ms : List Pair). AreOthers (bytes_eq (codes "elementId")) (λ name. value_at name ms) b.rest) (sym same) two.rest in
+    let same = members-once one.value one.members two.members one.object
+    (subst (λ v. IsObject v two.members) (sym value) two.object) in
+    let target : IsText (value_at (codes "elementId") one.members) b.target =
+    subst (λ ms. IsText (value_at (codes "elementId") ms) b.target) (sym same) two.target in
+    let rest : AreOthers (bytes_eq (codes "elementId")) (λ name. value_at name one.members) b.rest =
+    subst (λ (ms : List Pair). AreOthers (bytes_eq (codes "elementId")) (λ name. value_at name ms) b.rest)
+    (sym same) two.rest in
     let targets = text-once _ a.target b.target one.target target in
-    let rests = others-once (bytes_eq (codes "elementId")) (λ name. value_at name one.members) a.rest b.rest one.rest rest in
+    let rests =
+    others-once (bytes_eq (codes "elementId")) (λ name. value_at name one.members) a.rest b.rest one.rest rest in
     λ i. record { target = targets i; rest = rests i }
 
 bound-apart : (found : Option (List ℕ)) (b : Binding) → IsBindingOrNull found None → IsBindingObject found b → ⊥
@@ -218,10 +242,12 @@ bound-apart found b (inr one) two =
     let e = one.found_is in
     let f = two.found_is in
     let value : two.value ≡ one.value = cc in
-    let same = members-once one.value two.members one.members (subst (λ v. IsObject v two.members) value two.object) one.object in
+    let same = members-once one.value two.members one.members (subst (λ v. IsObject v two.members) value two.object)
+    one.object in
     one.free b.target (subst (λ ms. IsText (value_at (codes "elementId") ms) b.target) same two.target)
 
-pub binding-once : (found : Option (List ℕ)) (a b : Option Binding) → IsBindingOrNull found a → IsBindingOrNull found b → a ≡ b
+pub binding-once : (found : Option (List ℕ)) (a b : Option Binding) → IsBindingOrNull found a → IsBindingOrNull found b
+    → a ≡ b
 binding-once found None None one two = refl
 binding-once found None (Some b) one two = absurd (bound-apart found b one two)
 binding-once found (Some a) None one two = absurd (bound-apart found a two one)

@@ -30,7 +30,8 @@ header_pairs e kind = map (header_pair e) (headers_of kind)
 abbrev with_own : ElementValue → Kind → List Pair
 with_own e kind =
     (codes "id", quote e.id) ∷ (codes "type", quote (kind_name e.kind))
-    ∷ (codes "version", decimal e.version) ∷ (codes "versionNonce", decimal e.nonce) ∷ (codes "updated", decimal e.updated)
+    ∷ (codes "version", decimal e.version) ∷ (codes "versionNonce", decimal e.nonce)
+    ∷ (codes "updated", decimal e.updated)
     ∷ (codes "isDeleted", truth_text e.deleted) ∷ (codes "index", text_or_null e.index)
     ∷ (codes "groupIds", array_text (map quote e.groups)) ∷ (codes "frameId", text_or_null e.frame)
     ∷ (codes "boundElements", array_text (map bound_text e.bound)) ∷ own_members e kind
@@ -53,10 +54,12 @@ sorted-headers e (Other name) = refl
 headers-rise : (e : ElementValue) → IsRising (header_pairs e e.kind)
 headers-rise e =
     subst IsRising (sorted-headers e e.kind)
-    (IsRising-sorted (header_members e) (subst (IsDistinct bytes_eq) (sym (names_of-header e)) (IsDistinct-header e.kind)))
+    (IsRising-sorted (header_members e)
+    (subst (IsDistinct bytes_eq) (sym (names_of-header e)) (IsDistinct-header e.kind)))
 
 headers-moved : (e : ElementValue) → IsPermutation (header_members e) (header_pairs e e.kind)
-headers-moved e = subst (IsPermutation (header_members e)) (sorted-headers e e.kind) (IsPermutation-sorted (header_members e))
+headers-moved e =
+    subst (IsPermutation (header_members e)) (sorted-headers e e.kind) (IsPermutation-sorted (header_members e))
 
 -- the members of an element
 rest-rises : (e : ElementValue) → IsElement e → IsRising (pairs e.rest)
@@ -65,30 +68,40 @@ rest-rises e is = IsRising-from (pairs e.rest) (ap are_rising (names-pairs e.res
 pub merged-element : (e : ElementValue) → IsElement e → merged (header_pairs e e.kind) e.rest ≡ element_members e
 unfolding element_members
 merged-element e is =
-    merged-sorted (header_members e) (header_pairs e e.kind) e.rest (headers-moved e) (headers-rise e) (rest-rises e is) (IsDistinct-element e is)
+    merged-sorted (header_members e) (header_pairs e e.kind) e.rest (headers-moved e) (headers-rise e) (rest-rises e is)
+    (IsDistinct-element e is)
 
 pub element-rises : (e : ElementValue) → IsElement e → IsRising (element_members e)
 unfolding element_members
 element-rises e is = IsRising-sorted (header_members e ++ pairs e.rest) (IsDistinct-element e is)
 
 -- the members of a binding
-distinct : (binding : Binding) → IsBinding binding → IsDistinct bytes_eq (codes "elementId" ∷ names_of (pairs binding.rest))
+distinct : (binding : Binding) → IsBinding binding
+    → IsDistinct bytes_eq (codes "elementId" ∷ names_of (pairs binding.rest))
 distinct binding is =
-    subst (λ ns. IsDistinct bytes_eq (codes "elementId" ∷ ns)) (sym (names-pairs binding.rest)) (IsDistinct-binding binding is)
+    subst (λ ns. IsDistinct bytes_eq (codes "elementId" ∷ ns)) (sym (names-pairs binding.rest))
+    (IsDistinct-binding binding is)
 
 abbrev pub target_pair : Binding → Pair
 target_pair binding = (codes "elementId", quote binding.target)
 
-pub merged-binding : (binding : Binding) → IsBinding binding → merged (target_pair binding ∷ []) binding.rest ≡ sorted_members (target_pair binding ∷ pairs binding.rest)
+pub merged-binding : (binding : Binding) → IsBinding binding → merged (target_pair binding ∷ []) binding.rest
+    ≡ sorted_members (target_pair binding ∷ pairs binding.rest)
 merged-binding binding is =
     let target = target_pair binding ∷ [] in
-    merged-sorted target target binding.rest (IsPermutation-refl target) (tt, tt) (IsRising-from (pairs binding.rest) (ap are_rising (names-pairs binding.rest) ∙ is.rise)) (distinct binding is)
+    merged-sorted target target binding.rest (IsPermutation-refl target) (
+      tt,
+      tt,
+    ) (IsRising-from (pairs binding.rest) (ap are_rising (names-pairs binding.rest) ∙ is.rise))
+    (distinct binding is)
 
-pub binding-rises : (binding : Binding) → IsBinding binding → IsRising (sorted_members (target_pair binding ∷ pairs binding.rest))
+pub binding-rises : (binding : Binding) → IsBinding binding
+    → IsRising (sorted_members (target_pair binding ∷ pairs binding.rest))
 binding-rises binding is = IsRising-sorted (target_pair binding ∷ pairs binding.rest) (distinct binding is)
 
 -- the object of an element's members
-pub element-compact : (e : ElementValue) → IsElement e → AreSound 119 (element_members e) → IsCompact 120 (object_text (element_members e))
+pub element-compact : (e : ElementValue) → IsElement e → AreSound 119 (element_members e)
+    → IsCompact 120 (object_text (element_members e))
 element-compact e is sound = sound-compact 119 (element_members e) sound (element-rises e is)
 
 -- there is a header member

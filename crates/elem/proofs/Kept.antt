@@ -112,10 +112,12 @@ abbrev pub IsEnd : Kind → Option Binding → Type 0
 IsEnd kind end' = IfSome end' (λ binding. (kind ≡ Arrow) × IsBinding binding)
 
 module _ (e : ElementValue) (kept : IsKept e) where
-  pub with_parts : (deleted : Bool) (index : Option (List ℕ)) (groups : List (List ℕ)) (frame : Option (List ℕ)) (bound : List BoundRef) (container : Option (List ℕ)) (start_binding end_binding : Option Binding)
+  pub with_parts : (deleted : Bool) (index : Option (List ℕ)) (groups : List (List ℕ)) (frame : Option (List ℕ))
+      (bound : List BoundRef) (container : Option (List ℕ)) (start_binding end_binding : Option Binding)
       → IsIndex index → AllByRecursion IsUtf8 groups → IfSome frame IsUtf8 → AllByRecursion HasText bound
       → IfSome container (λ id. e.kind ≡ Text) → IfSome container IsUtf8
-      → IsEnd e.kind start_binding → IfSome start_binding IsBindingText → IsEnd e.kind end_binding → IfSome end_binding IsBindingText
+      → IsEnd e.kind start_binding → IfSome start_binding IsBindingText → IsEnd e.kind end_binding
+      → IfSome end_binding IsBindingText
       → IsKept (record e {
         deleted = deleted;
         index = index;
@@ -126,7 +128,8 @@ module _ (e : ElementValue) (kept : IsKept e) where
         start_binding = start_binding;
         end_binding = end_binding;
       })
-  with_parts deleted index groups frame bound container start_binding end_binding key group_texts frame_text entry_texts on_text container_text starts start_text ends end_text =
+  with_parts deleted index groups frame bound container start_binding end_binding key group_texts frame_text entry_texts
+      on_text container_text starts start_text ends end_text =
       let a = kept.element in
       let w = kept.written in
       record {
@@ -169,43 +172,53 @@ module _ (e : ElementValue) (kept : IsKept e) where
   with_index index is =
       let a = kept.element in
       let w = kept.written in
-      with_parts e.deleted index e.groups e.frame e.bound e.container e.start_binding e.end_binding is w.groups w.frame w.bound a.container w.container a.start_binding w.start_binding a.end_binding w.end_binding
+      with_parts e.deleted index e.groups e.frame e.bound e.container e.start_binding e.end_binding is w.groups w.frame
+      w.bound a.container w.container a.start_binding w.start_binding a.end_binding w.end_binding
 
   pub with_groups : (groups : List (List ℕ)) → AllByRecursion IsUtf8 groups → IsKept (record e { groups = groups })
   with_groups groups are =
       let a = kept.element in
       let w = kept.written in
-      with_parts e.deleted e.index groups e.frame e.bound e.container e.start_binding e.end_binding w.index are w.frame w.bound a.container w.container a.start_binding w.start_binding a.end_binding w.end_binding
+      with_parts e.deleted e.index groups e.frame e.bound e.container e.start_binding e.end_binding w.index are w.frame
+      w.bound a.container w.container a.start_binding w.start_binding a.end_binding w.end_binding
 
   pub with_frame : (frame : Option (List ℕ)) → IfSome frame IsUtf8 → IsKept (record e { frame = frame })
   with_frame frame is =
       let a = kept.element in
       let w = kept.written in
-      with_parts e.deleted e.index e.groups frame e.bound e.container e.start_binding e.end_binding w.index w.groups is w.bound a.container w.container a.start_binding w.start_binding a.end_binding w.end_binding
+      with_parts e.deleted e.index e.groups frame e.bound e.container e.start_binding e.end_binding w.index w.groups is
+      w.bound a.container w.container a.start_binding w.start_binding a.end_binding w.end_binding
 
   pub with_bound : (bound : List BoundRef) → AllByRecursion HasText bound → IsKept (record e { bound = bound })
   with_bound bound are =
       let a = kept.element in
       let w = kept.written in
-      with_parts e.deleted e.index e.groups e.frame bound e.container e.start_binding e.end_binding w.index w.groups w.frame are a.container w.container a.start_binding w.start_binding a.end_binding w.end_binding
+      with_parts e.deleted e.index e.groups e.frame bound e.container e.start_binding e.end_binding w.index w.groups
+      w.frame are a.container w.container a.start_binding w.start_binding a.end_binding w.end_binding
 
-  pub with_container : (container : Option (List ℕ)) → IfSome container (λ id. e.kind ≡ Text) → IfSome container IsUtf8 → IsKept (record e { container = container })
+  pub with_container : (container : Option (List ℕ)) → IfSome container (λ id. e.kind ≡ Text) → IfSome container IsUtf8
+      → IsKept (record e { container = container })
   with_container container on_text text =
       let a = kept.element in
       let w = kept.written in
-      with_parts e.deleted e.index e.groups e.frame e.bound container e.start_binding e.end_binding w.index w.groups w.frame w.bound on_text text a.start_binding w.start_binding a.end_binding w.end_binding
+      with_parts e.deleted e.index e.groups e.frame e.bound container e.start_binding e.end_binding w.index w.groups
+      w.frame w.bound on_text text a.start_binding w.start_binding a.end_binding w.end_binding
 
-  pub with_start : (binding : Option Binding) → IsEnd e.kind binding → IfSome binding IsBindingText → IsKept (record e { start_binding = binding })
+  pub with_start : (binding : Option Binding) → IsEnd e.kind binding → IfSome binding IsBindingText
+      → IsKept (record e { start_binding = binding })
   with_start binding is text =
       let a = kept.element in
       let w = kept.written in
-      with_parts e.deleted e.index e.groups e.frame e.bound e.container binding e.end_binding w.index w.groups w.frame w.bound a.container w.container is text a.end_binding w.end_binding
+      with_parts e.deleted e.index e.groups e.frame e.bound e.container binding e.end_binding w.index w.groups w.frame
+      w.bound a.container w.container is text a.end_binding w.end_binding
 
-  pub with_end' : (binding : Option Binding) → IsEnd e.kind binding → IfSome binding IsBindingText → IsKept (record e { end_binding = binding })
+  pub with_end' : (binding : Option Binding) → IsEnd e.kind binding → IfSome binding IsBindingText
+      → IsKept (record e { end_binding = binding })
   with_end' binding is text =
       let a = kept.element in
       let w = kept.written in
-      with_parts e.deleted e.index e.groups e.frame e.bound e.container e.start_binding binding w.index w.groups w.frame w.bound a.container w.container a.start_binding w.start_binding is text
+      with_parts e.deleted e.index e.groups e.frame e.bound e.container e.start_binding binding w.index w.groups w.frame
+      w.bound a.container w.container a.start_binding w.start_binding is text
 
   pub with_stamp : (version nonce updated : ℕ)
       → version ≤ greatest_whole → nonce ≤ greatest_whole → updated ≤ greatest_whole

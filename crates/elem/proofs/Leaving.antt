@@ -16,12 +16,15 @@ use Rattle.elem.specs.Texts.{binding_text, element_text}
 use Rattle.elem.proofs.Headers.{merged-element, merged-binding}
 
 -- ---- lists
-items_left : (start close : ℕ) (item : List ℕ) (items : List (List ℕ)) → item ++ list_left start close false items ≡ join_with_byte 44 (item ∷ items) ++ close ∷ []
+items_left : (start close : ℕ) (item : List ℕ) (items : List (List ℕ))
+    → item ++ list_left start close false items ≡ join_with_byte 44 (item ∷ items) ++ close ∷ []
 items_left start close item [] = refl
 items_left start close item (next ∷ items) =
-    ap (λ rest. item ++ 44 ∷ rest) (items_left start close next items) ∙ sym (append_assoc item (44 ∷ join_with_byte 44 (next ∷ items)) (close ∷ []))
+    ap (λ rest. item ++ 44 ∷ rest) (items_left start close next items)
+    ∙ sym (append_assoc item (44 ∷ join_with_byte 44 (next ∷ items)) (close ∷ []))
 
-list-left : (start close : ℕ) (items : List (List ℕ)) → list_left start close true items ≡ start ∷ (join_with_byte 44 items ++ close ∷ [])
+list-left : (start close : ℕ) (items : List (List ℕ)) → list_left start close true items ≡ start
+    ∷ (join_with_byte 44 items ++ close ∷ [])
 list-left start close [] = refl
 list-left start close (item ∷ items) = ap (λ rest. start ∷ rest) (items_left start close item items)
 
@@ -35,7 +38,8 @@ object_left_whole ms = list-left 123 125 (map member_text ms)
 
 -- ---- members of both kinds
 -- the first of the others comes before a header member
-pub merged-below : (h : Pair) (hs : List Pair) (m : Member) (ms : List Member) → bytes_less m.name h.0 ≡ true → merged (h ∷ hs) (m ∷ ms) ≡ pair_of m ∷ merged (h ∷ hs) ms
+pub merged-below : (h : Pair) (hs : List Pair) (m : Member) (ms : List Member) → bytes_less m.name h.0 ≡ true
+    → merged (h ∷ hs) (m ∷ ms) ≡ pair_of m ∷ merged (h ∷ hs) ms
 merged-below h hs m ms below = rw below refl
 
 -- no other comes before a header member
@@ -46,17 +50,23 @@ back_all name (m ∷ ms) none = elim (cases_Bool (bytes_less m.name name)) [
   | inr e ↦ rw e refl
 ]
 
-pub merged-header : (h : Pair) (hs : List Pair) (ms : List Member) → members_below h.0 ms ≡ [] → merged (h ∷ hs) ms ≡ h ∷ merged hs ms
+pub merged-header : (h : Pair) (hs : List Pair) (ms : List Member) → members_below h.0 ms ≡ []
+    → merged (h ∷ hs) ms ≡ h ∷ merged hs ms
 merged-header h hs ms none = rw (none, back_all h.0 ms none) refl
 
 -- ---- the whole texts
-pub binding_left : (binding : Binding) → IsBinding binding → object_left true ((codes "elementId", quote binding.target) ∷ []) binding.rest ≡ binding_text (Some binding)
-binding_left binding is = ap (λ ms. list_left 123 125 true (map member_text ms)) (merged-binding binding is) ∙ object_left_whole _
+pub binding_left : (binding : Binding) → IsBinding binding
+    → object_left true ((codes "elementId", quote binding.target) ∷ []) binding.rest ≡ binding_text (Some binding)
+binding_left binding is =
+    ap (λ ms. list_left 123 125 true (map member_text ms)) (merged-binding binding is) ∙ object_left_whole _
 
-pub element_left : (e : ElementValue) → IsElement e → object_left true (map (header_pair e) (headers_of e.kind)) e.rest ≡ element_text e
+pub element_left : (e : ElementValue) → IsElement e → object_left true (map (header_pair e) (headers_of e.kind)) e.rest
+    ≡ element_text e
 element_left e is = ap (λ ms. list_left 123 125 true (map member_text ms)) (merged-element e is) ∙ object_left_whole _
 
-pub entry_left : (id role : List ℕ) → 123 ∷ (quote (codes "id") ++ 58 ∷ (quote id ++ 44 ∷ (member_text (codes "type", role) ++ 125 ∷ []))) ≡ object_text ((codes "id", quote id) ∷ (codes "type", role) ∷ [])
+pub entry_left : (id role : List ℕ) → 123
+    ∷ (quote (codes "id") ++ 58 ∷ (quote id ++ 44 ∷ (member_text (codes "type", role) ++ 125 ∷ [])))
+    ≡ object_text ((codes "id", quote id) ∷ (codes "type", role) ∷ [])
 unfolding object_text
 entry_left id role =
     let kind = member_text (codes "type", role) in
@@ -66,8 +76,10 @@ entry_left id role =
     ∙ ap (λ t. t ++ 125 ∷ []) (sym (append_assoc (quote (codes "id")) (58 ∷ quote id) (44 ∷ kind))))
 
 -- ---- a header member
-pub header-splits : (first : Bool) (h : Pair) (hs : List Pair) (ms : List Member) (piece more : List ℕ) → members_below h.0 ms ≡ []
-    → Splits ((if first then 123 else 44) ∷ member_text h) piece more → Splits (object_left first (h ∷ hs) ms) piece (more ++ object_left false hs ms)
+pub header-splits : (first : Bool) (h : Pair) (hs : List Pair) (ms : List Member) (piece more : List ℕ)
+    → members_below h.0 ms ≡ []
+    → Splits ((if first then 123 else 44) ∷ member_text h) piece more
+    → Splits (object_left first (h ∷ hs) ms) piece (more ++ object_left false hs ms)
 header-splits first h hs ms piece more none is =
     let left = object_left false hs ms in
     record {

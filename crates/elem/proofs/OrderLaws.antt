@@ -42,7 +42,8 @@ pub bytes-below : (a b c : List ℕ) → bytes_less b a ≡ false → bytes_less
 bytes-below a b c first second = elim (cases_Bool (bytes_less c a)) [
   | inl less ↦ elim (cases_Bool (bytes_less a b)) [
     | inl more ↦ absurd (false≢true (sym second ∙ bytes_less-trans c a b less more))
-    | inr same ↦ absurd (false≢true (sym second ∙ subst (λ t. bytes_less c t ≡ true) (bytes-neither a b same first) less))
+    | inr same ↦ absurd (false≢true (sym second
+        ∙ subst (λ t. bytes_less c t ≡ true) (bytes-neither a b same first) less))
   ]
   | inr above ↦ above
 ]
@@ -69,7 +70,8 @@ pub beats-below : (a b c : ElementValue) → beats b a ≡ false → beats c b �
 beats-below a b c first second = let text = less-below a b c in grind (arith, nat_tests)
 
 -- Where neither beats the other, their versions, their nonces and their texts are equal.
-pub beats-neither : (a b : ElementValue) → beats a b ≡ false → beats b a ≡ false → (a.version ≡ b.version) × (a.nonce ≡ b.nonce) × (element_text a ≡ element_text b)
+pub beats-neither : (a b : ElementValue) → beats a b ≡ false → beats b a ≡ false → (a.version ≡ b.version)
+    × (a.nonce ≡ b.nonce) × (element_text a ≡ element_text b)
 beats-neither a b first second =
     let versions : a.version ≡ b.version = grind (arith, nat_tests) in
     let nonces : a.nonce ≡ b.nonce = grind (arith, nat_tests) in

@@ -24,9 +24,15 @@ r1 = record {
   end_binding = None;
   file = None;
   rest =
-      record { name = codes "angle"; value = codes "0" } ∷ record { name = codes "backgroundColor"; value = codes "\"transparent\"" } ∷ [];
+      record { name = codes "angle"; value = codes "0" } ∷ record {
+        name = codes "backgroundColor";
+        value =
+            codes "\"transparent\"";
+      } ∷ [];
 }
 
-row : element_text r1 ≡ codes "{\"angle\":0,\"backgroundColor\":\"transparent\",\"boundElements\":[],\"frameId\":null,\"groupIds\":[],\"id\":\"r1\",\"index\":null,\"isDeleted\":false,\"type\":\"rectangle\",\"updated\":0,\"version\":1,\"versionNonce\":0}"
+row : element_text r1
+    ≡ codes
+    "{\"angle\":0,\"backgroundColor\":\"transparent\",\"boundElements\":[],\"frameId\":null,\"groupIds\":[],\"id\":\"r1\",\"index\":null,\"isDeleted\":false,\"type\":\"rectangle\",\"updated\":0,\"version\":1,\"versionNonce\":0}"
 unfolding r1 digits quote array_text object_text element_members
 row = refl

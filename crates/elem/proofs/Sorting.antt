@@ -49,18 +49,22 @@ turned o Greater e differ above = ap is_lt e
 -- of two names that differ the one that isn't greater is less
 pub bytes_less-turned : (a b : List ℕ) → bytes_eq a b ≡ false → bytes_less b a ≡ false → bytes_less a b ≡ true
 bytes_less-turned a b differ above =
-    turned (slice_cmp nat_cmp a b) (slice_cmp nat_cmp b a) (nat_list_cmp_total.antisymm a b) (sym (texts_ties a b) ∙ differ) above
+    turned (slice_cmp nat_cmp a b) (slice_cmp nat_cmp b a) (nat_list_cmp_total.antisymm a b) (sym (texts_ties a b)
+    ∙ differ) above
 
 -- ---- what holds of each
-pub AllByRecursion-weaker : {X : Type 0} (P Q : X → Type 0) (xs : List X) → ((x : X) → P x → Q x) → AllByRecursion P xs → AllByRecursion Q xs
+pub AllByRecursion-weaker : {X : Type 0} (P Q : X → Type 0) (xs : List X) → ((x : X) → P x → Q x) → AllByRecursion P xs
+    → AllByRecursion Q xs
 AllByRecursion-weaker P Q [] f h = tt
 AllByRecursion-weaker P Q (x ∷ xs) f h = (f x h.0, AllByRecursion-weaker P Q xs f h.1)
 
-pub AllByRecursion-map : {X Y : Type 0} (f : X → Y) (P : Y → Type 0) (xs : List X) → AllByRecursion P (map f xs) → AllByRecursion (λ x. P (f x)) xs
+pub AllByRecursion-map : {X Y : Type 0} (f : X → Y) (P : Y → Type 0) (xs : List X) → AllByRecursion P (map f xs)
+    → AllByRecursion (λ x. P (f x)) xs
 AllByRecursion-map f P [] h = tt
 AllByRecursion-map f P (x ∷ xs) h = (h.0, AllByRecursion-map f P xs h.1)
 
-AllByRecursion-with_member : (P : Pair → Type 0) (m : Pair) (ms : List Pair) → P m → AllByRecursion P ms → AllByRecursion P (with_member m ms)
+AllByRecursion-with_member : (P : Pair → Type 0) (m : Pair) (ms : List Pair) → P m → AllByRecursion P ms
+    → AllByRecursion P (with_member m ms)
 AllByRecursion-with_member P m [] p h = (p, tt)
 AllByRecursion-with_member P m (n ∷ ns) p h =
     elim (bytes_less n.0 m.0) as (λ b. AllByRecursion P (if b then n ∷ with_member m ns else m ∷ n ∷ ns)) [
@@ -68,15 +72,19 @@ AllByRecursion-with_member P m (n ∷ ns) p h =
       | false ↦ (p, h)
     ]
 
-pub AllByRecursion-sorted : (P : Pair → Type 0) (ms : List Pair) → AllByRecursion P ms → AllByRecursion P (sorted_members ms)
+pub AllByRecursion-sorted : (P : Pair → Type 0) (ms : List Pair) → AllByRecursion P ms
+    → AllByRecursion P (sorted_members ms)
 AllByRecursion-sorted P [] h = tt
-AllByRecursion-sorted P (m ∷ ms) h = AllByRecursion-with_member P m (sorted_members ms) h.0 (AllByRecursion-sorted P ms h.1)
+AllByRecursion-sorted P (m ∷ ms) h =
+    AllByRecursion-with_member P m (sorted_members ms) h.0 (AllByRecursion-sorted P ms h.1)
 
 -- ---- sorted members rise
-IsRising-with_member : (m : Pair) (ms : List Pair) → AllByRecursion (λ (n : Pair). bytes_eq m.0 n.0 ≡ false) ms → IsRising ms → IsRising (with_member m ms)
+IsRising-with_member : (m : Pair) (ms : List Pair) → AllByRecursion (λ (n : Pair). bytes_eq m.0 n.0 ≡ false) ms
+    → IsRising ms → IsRising (with_member m ms)
 IsRising-with_member m [] apart rise = (tt, tt)
 IsRising-with_member m (n ∷ ns) apart rise =
-    elim (bytes_less n.0 m.0) as (λ b. bytes_less n.0 m.0 ≡ b → IsRising (if b then n ∷ with_member m ns else m ∷ n ∷ ns)) [
+    elim (bytes_less n.0 m.0) as (λ b. bytes_less n.0 m.0 ≡ b
+    → IsRising (if b then n ∷ with_member m ns else m ∷ n ∷ ns)) [
       | true ↦ λ below. (AllByRecursion-with_member _ m ns below rise.0, IsRising-with_member m ns apart.1 rise.1)
       | false ↦ λ below.
           let first = bytes_less-turned m.0 n.0 apart.0 below in
@@ -104,7 +112,8 @@ IsPermutation-with_member m (n ∷ ns) =
 pub IsPermutation-sorted : (ms : List Pair) → IsPermutation ms (sorted_members ms)
 IsPermutation-sorted [] = IsPermutation-refl []
 IsPermutation-sorted (m ∷ ms) =
-    IsPermutation-trans _ (m ∷ sorted_members ms) _ (IsPermutation-cons m _ _ (IsPermutation-sorted ms)) (IsPermutation-with_member m (sorted_members ms))
+    IsPermutation-trans _ (m ∷ sorted_members ms) _ (IsPermutation-cons m _ _ (IsPermutation-sorted ms))
+    (IsPermutation-with_member m (sorted_members ms))
 
 -- ---- there is one rising list of some members
 abbrev In : Pair → List Pair → Type 0
@@ -127,20 +136,25 @@ at_In P m (n ∷ ns) (inr i) h = at_In P m ns i h.1
 
 -- what is in a rising list and after its first is in the others
 later_in : (m n : Pair) (ms : List Pair) → bytes_less m.0 n.0 ≡ true → In n (m ∷ ms) → In n ms
-later_in m n ms above (inl e) = absurd (false≢true (sym (bytes_less-same m.0) ∙ ap (λ (o : Pair). bytes_less m.0 o.0) (sym e) ∙ above))
+later_in m n ms above (inl e) =
+    absurd (false≢true (sym (bytes_less-same m.0) ∙ ap (λ (o : Pair). bytes_less m.0 o.0) (sym e) ∙ above))
 later_in m n ms above (inr i) = i
 
-first_same : (m n : Pair) (ms ns : List Pair) → IsRising (m ∷ ms) → IsRising (n ∷ ns) → In m (n ∷ ns) → In n (m ∷ ms) → m ≡ n
+first_same : (m n : Pair) (ms ns : List Pair) → IsRising (m ∷ ms) → IsRising (n ∷ ns) → In m (n ∷ ns) → In n (m ∷ ms)
+    → m ≡ n
 first_same m n ms ns rise rise' (inl e) j = e
 first_same m n ms ns rise rise' (inr i) (inl e) = sym e
 first_same m n ms ns rise rise' (inr i) (inr j) =
-    absurd (false≢true (sym (bytes_less-asym n.0 m.0 (at_In (λ o. bytes_less n.0 o.0 ≡ true) m ns i rise'.0)) ∙ at_In (λ o. bytes_less m.0 o.0 ≡ true) n ms j rise.0))
+    absurd (false≢true (sym (bytes_less-asym n.0 m.0 (at_In (λ o. bytes_less n.0 o.0 ≡ true) m ns i rise'.0))
+    ∙ at_In (λ o. bytes_less m.0 o.0 ≡ true) n ms j rise.0))
 
-others_in : (m : Pair) (ms ns : List Pair) → AllByRecursion (λ (o : Pair). bytes_less m.0 o.0 ≡ true) ms → AllByRecursion (λ (o : Pair). In o (m ∷ ns)) ms → AllByRecursion (λ (o : Pair). In o ns) ms
+others_in : (m : Pair) (ms ns : List Pair) → AllByRecursion (λ (o : Pair). bytes_less m.0 o.0 ≡ true) ms
+    → AllByRecursion (λ (o : Pair). In o (m ∷ ns)) ms → AllByRecursion (λ (o : Pair). In o ns) ms
 others_in m [] ns above within = tt
 others_in m (o ∷ ms) ns above within = (later_in m o ns above.0 within.0, others_in m ms ns above.1 within.1)
 
-same_in : (ms ns : List Pair) → IsRising ms → IsRising ns → AllByRecursion (λ (m : Pair). In m ns) ms → AllByRecursion (λ (n : Pair). In n ms) ns → ms ≡ ns
+same_in : (ms ns : List Pair) → IsRising ms → IsRising ns → AllByRecursion (λ (m : Pair). In m ns) ms
+    → AllByRecursion (λ (n : Pair). In n ms) ns → ms ≡ ns
 same_in [] [] rise rise' left right = refl
 same_in [] (n ∷ ns) rise rise' left right = absurd right.0
 same_in (m ∷ ms) [] rise rise' left right = absurd left.0
@@ -153,10 +167,12 @@ same_in (m ∷ ms) (n ∷ ns) rise rise' left right =
     λ i. first i ∷ others i
 
 pub same_rising : (ms ns : List Pair) → IsRising ms → IsRising ns → IsPermutation ms ns → ms ≡ ns
-same_rising ms ns rise rise' moved = same_in ms ns rise rise' (moved_in ns ms (IsPermutation-sym _ _ moved)) (moved_in ms ns moved)
+same_rising ms ns rise rise' moved =
+    same_in ms ns rise rise' (moved_in ns ms (IsPermutation-sym _ _ moved)) (moved_in ms ns moved)
 
 -- ---- members by their names alone
-rises : (m : Pair) (ms : List Pair) → AllByRecursion (λ (n : Pair). bytes_less m.0 n.0 ≡ true) ms → IsRising ms → rise_between (Some m.0) None (names_of ms) ≡ true
+rises : (m : Pair) (ms : List Pair) → AllByRecursion (λ (n : Pair). bytes_less m.0 n.0 ≡ true) ms → IsRising ms
+    → rise_between (Some m.0) None (names_of ms) ≡ true
 rises m [] above rise = refl
 rises m (n ∷ ns) above rise = and_from _ _ above.0 (rises n ns rise.0 rise.1)
 
@@ -164,7 +180,8 @@ pub are_rising-from : (ms : List Pair) → IsRising ms → are_rising (names_of 
 are_rising-from [] rise = refl
 are_rising-from (m ∷ ms) rise = rises m ms rise.0 rise.1
 
-risen : (m : Pair) (ms : List Pair) → rise_between (Some m.0) None (names_of ms) ≡ true → AllByRecursion (λ (n : Pair). bytes_less m.0 n.0 ≡ true) ms × IsRising ms
+risen : (m : Pair) (ms : List Pair) → rise_between (Some m.0) None (names_of ms) ≡ true
+    → AllByRecursion (λ (n : Pair). bytes_less m.0 n.0 ≡ true) ms × IsRising ms
 risen m [] h = (tt, tt)
 risen m (n ∷ ns) h =
     let both = and_parts _ _ h in

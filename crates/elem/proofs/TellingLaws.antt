@@ -12,13 +12,15 @@ use Rattle.elem.specs.declared.kind.Kind.TheVariants as kinds
 use Rattle.elem.specs.Texts.{kind_name}
 
 -- one more item
-pub each-more : {X : Type 0} (P : X → Type 0) (xs : List X) (i : ℕ) (x : X) → x ≡ get_or xs i x → i < length xs → AllByRecursion P (take i xs) → P x → AllByRecursion P (take (i + 1) xs)
+pub each-more : {X : Type 0} (P : X → Type 0) (xs : List X) (i : ℕ) (x : X) → x ≡ get_or xs i x → i < length xs
+    → AllByRecursion P (take i xs) → P x → AllByRecursion P (take (i + 1) xs)
 each-more P xs i x here within all own =
     subst (AllByRecursion P) (sym (take_more xs i x within ∙ ap (λ y. take i xs ++ y ∷ []) (sym here)))
     (AllByRecursion-append P (take i xs) (x ∷ []) all (own, tt))
 
 -- members and their names
-pub names-each : (members : List Member) → AllByRecursion (λ (member : Member). IsUtf8 member.name) members → AllByRecursion IsUtf8 (names members)
+pub names-each : (members : List Member) → AllByRecursion (λ (member : Member). IsUtf8 member.name) members
+    → AllByRecursion IsUtf8 (names members)
 names-each [] all = tt
 names-each (member ∷ members) all = (all.0, names-each members all.1)
 

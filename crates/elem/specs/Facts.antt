@@ -16,7 +16,8 @@ greatest_whole = 9007199254740991
 -- the names of the header members that all kinds have, and those of one kind alone
 abbrev pub header_names : List (List ℕ)
 header_names =
-    codes "id" ∷ codes "type" ∷ codes "version" ∷ codes "versionNonce" ∷ codes "updated" ∷ codes "isDeleted" ∷ codes "index"
+    codes "id" ∷ codes "type" ∷ codes "version" ∷ codes "versionNonce" ∷ codes "updated"
+    ∷ codes "isDeleted" ∷ codes "index"
     ∷ codes "groupIds" ∷ codes "frameId" ∷ codes "boundElements" ∷ []
 
 abbrev pub own_names : Kind → List (List ℕ)
@@ -36,13 +37,16 @@ own_names (Other name) = []
 
 -- whether a member of this name is a header member of this kind
 abbrev pub is_header : Kind → List ℕ → Bool
-is_header kind name = list_any (bytes_eq name) header_names || list_any (bytes_eq name) (own_names kind)
+is_header kind name =
+    list_any (bytes_eq name) header_names || list_any (bytes_eq name) (own_names kind)
 
 -- the names that other variants of a kind have, and `selection`, which is no element
 abbrev pub known_names : List (List ℕ)
 known_names =
-    codes "rectangle" ∷ codes "diamond" ∷ codes "ellipse" ∷ codes "arrow" ∷ codes "line" ∷ codes "freedraw" ∷ codes "text"
-    ∷ codes "image" ∷ codes "frame" ∷ codes "magicframe" ∷ codes "iframe" ∷ codes "embeddable" ∷ codes "selection" ∷ []
+    codes "rectangle" ∷ codes "diamond" ∷ codes "ellipse" ∷ codes "arrow" ∷ codes "line"
+    ∷ codes "freedraw" ∷ codes "text"
+    ∷ codes "image" ∷ codes "frame" ∷ codes "magicframe" ∷ codes "iframe" ∷ codes "embeddable"
+    ∷ codes "selection" ∷ []
 
 -- Another kind has none of the known names.
 abbrev pub IsKind : Kind → Type 0
@@ -67,15 +71,17 @@ names members = map (λ (member : Member). member.name) members
 abbrev pub AllNest : ℕ → List Member → Type 0
 AllNest limit members = AllByRecursion (λ (member : Member). IsCompact limit member.value) members
 
--- The further members of a binding have rising names, none of them `elementId`; it is in an element that nests at most
+-- The further members of a binding have rising names, none of them `elementId`; it is in an element
+-- that nests at most
 -- 120.
 pub record IsBinding (binding : Binding) : Type 0 where
   pub rise : are_rising (names binding.rest) ≡ true
   pub free : list_any (bytes_eq (codes "elementId")) (names binding.rest) ≡ false
   pub nest : AllNest 118 binding.rest
 
--- The id isn't empty; the numbers are within their limit; a container is there for a text alone, bindings for an arrow,
--- a file for an image; the other names rise, and none is a header name of the kind; the element nests at most 120.
+-- The id isn't empty; the numbers are within their limit; a container is there for a text alone,
+-- bindings for an arrow, a file for an image; the other names rise, and none is a header name of
+-- the kind; the element nests at most 120.
 pub record IsElement (e : ElementValue) : Type 0 where
   pub named : e.id ≢ []
   pub version : e.version ≤ greatest_whole

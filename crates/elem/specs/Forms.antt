@@ -1,6 +1,6 @@
--- What the value of a header member may be, and what it stands for: each form is a relation between what was found
--- under the member's name and what that is read as. After Excalidraw's element types; the forms that are accepted, and
--- what counts as none, are this project's own.
+-- What the value of a header member may be, and what it stands for: each form is a relation between
+-- what was found under the member's name and what that is read as. After Excalidraw's element
+-- types; the forms that are accepted, and what counts as none, are this project's own.
 use Rattle.std.specs.Prelude.{◌≡◌, ◌≢◌, ◌⊎◌, ℕ, ◌≤◌, List, [], ◌∷◌, Bool, true, false, Option, Some, None, map, codes, decimal, bytes_eq}
 use Rattle.std.specs.Str.{IsUtf8}
 use Rattle.std.specs.List.{AllByRecursion, list_any}
@@ -58,7 +58,8 @@ IsTextOrNull found (Some text) = IsText found text
 
 -- null, or a text, which counts as none unless it is a key
 abbrev pub IsKeyOrNull : Option (List ℕ) → Option (List ℕ) → Type 0
-IsKeyOrNull found None = IsNull found ⊎ ((text : List ℕ) × IsText found text × (is_key text ≡ false))
+IsKeyOrNull found None =
+    IsNull found ⊎ ((text : List ℕ) × IsText found text × (is_key text ≡ false))
 IsKeyOrNull found (Some key) = IsText found key × (is_key key ≡ true)
 
 -- an array of texts
@@ -81,14 +82,16 @@ pub record IsListingEntry (item : List ℕ) (entry : BoundRef) : Type 0 where
 abbrev pub AreListingEntries : List (List ℕ) → List BoundRef → Type 0
 AreListingEntries [] entries = entries ≡ []
 AreListingEntries (item ∷ items) entries =
-    ((entry : BoundRef) × (others : List BoundRef) × (entries ≡ entry ∷ others) × IsListingEntry item entry
+    ((entry : BoundRef) × (others : List BoundRef) × (entries ≡ entry ∷ others)
+    × IsListingEntry item entry
     × AreListingEntries items others)
     ⊎ (((entry : BoundRef) → IsListingEntry item entry → ⊥) × AreListingEntries items entries)
 
 -- an array
 abbrev pub IsListing : Option (List ℕ) → List BoundRef → Type 0
 IsListing found entries =
-    (items : List (List ℕ)) × AllByRecursion (IsCompact 127) items × (found ≡ Some (array_text items))
+    (items : List (List ℕ)) × AllByRecursion (IsCompact 127) items
+    × (found ≡ Some (array_text items))
     × AreListingEntries items entries
 
 -- All that is found but under the names of a header, with rising names.

@@ -1,4 +1,5 @@
--- What is left of the text of an element that is read byte by byte. Only contracts of private functions cite this.
+-- What is left of the text of an element that is read byte by byte. Only contracts of private
+-- functions cite this.
 use Rattle.std.specs.Prelude.{◌≡◌, ℕ, ◌<◌, List, [], ◌∷◌, ◌++◌, Bool, false, map, codes, length, if◌then◌else◌, decimal}
 use Rattle.json_text.specs.Characters.{quote}
 use Rattle.json_text.specs.Compact.{Member as Pair, member_text}
@@ -16,7 +17,8 @@ use Rattle.elem.specs.Texts.{bound_text}
 -- a list from here on, whose items have commas between them: at its first item, or behind one
 abbrev pub list_left : ℕ → ℕ → Bool → List (List ℕ) → List ℕ
 list_left start close first [] = if first then start ∷ close ∷ [] else close ∷ []
-list_left start close first (item ∷ items) = (if first then start else 44) ∷ (item ++ list_left start close false items)
+list_left start close first (item ∷ items) =
+    (if first then start else 44) ∷ (item ++ list_left start close false items)
 
 -- an object from here on
 abbrev pub object_left : Bool → List Pair → List Member → List ℕ
@@ -27,7 +29,8 @@ abbrev pub value_left : Value → List ℕ
 value_left Nothing = []
 value_left (Texts first texts) = list_left 91 93 first (map quote texts.now)
 value_left (Listing first entries) = list_left 91 93 first (map bound_text entries.now)
-value_left (Target first target rest) = object_left first ((codes "elementId", quote target.now) ∷ []) rest.now
+value_left (Target first target rest) =
+    object_left first ((codes "elementId", quote target.now) ∷ []) rest.now
 value_left (Members rest) = object_left false [] rest.now
 
 -- the value of a member from its first byte on
@@ -36,7 +39,8 @@ start_left start = start.quote ++ (start.plain.now ++ value_left start.value)
 
 -- the members of an element from here on
 abbrev pub open_left : Source → Bool → List Header → List Member → List ℕ
-open_left source first headers rest = object_left first (map (header_pair source.e.now) headers) rest
+open_left source first headers rest =
+    object_left first (map (header_pair source.e.now) headers) rest
 
 abbrev pub members_left : Source → MembersLeft → List ℕ
 members_left source (Open first headers rest) = open_left source first headers.now rest.now

@@ -1,5 +1,5 @@
--- When two entries of listings are the same: they are told apart exactly. These laws stand in specs/, since an `impl`
--- that compares entries gives them.
+-- When two entries of listings are the same: they are told apart exactly. These laws stand in
+-- specs/, since an `impl` that compares entries gives them.
 use Rattle.std.proofs.Common.{◌≡◌, Bool, true, false, ◌&&◌, bytes_eq, refl}
 use Rattle.std.proofs.lemmas.Bool.{and_parts, and_from, false≢true}
 use Rattle.json_text.proofs.CallerLemmas.{bytes_eq-true, bytes_eq-same}
@@ -35,5 +35,6 @@ same_listing_entry-exact a b h =
     λ i. record { id = id i; role = role i }
 
 pub same_listing_entry-same : (a : BoundRef) → same_listing_entry a a ≡ true
-same_listing_entry-same a = and_from (same_role a.role a.role) (bytes_eq a.id a.id) (roles-same a.role)
+same_listing_entry-same a =
+    and_from (same_role a.role a.role) (bytes_eq a.id a.id) (roles-same a.role)
     (bytes_eq-same a.id)

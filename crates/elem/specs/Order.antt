@@ -13,16 +13,19 @@ has_id id e = bytes_eq id e.id
 abbrev pub HaveDistinctIds : List ElementValue → Type 0
 HaveDistinctIds elements = IsDistinct bytes_eq (map (λ (e : ElementValue). e.id) elements)
 
--- whether an element's text is less than another one's in the order of their bytes. This project's own.
+-- whether an element's text is less than another one's in the order of their bytes. This project's
+-- own.
 unfoldable pub text_less : ElementValue → ElementValue → Bool
 text_less a b = bytes_less (element_text a) (element_text b)
 
--- An update beats another one of its id if its version is higher, or the versions are equal and its nonce is lower, or
--- both are equal and its text is less. Source: Excalidraw's reconcile; the last case is this project's own.
+-- An update beats another one of its id if its version is higher, or the versions are equal and its
+-- nonce is lower, or both are equal and its text is less. Source: Excalidraw's reconcile; the last
+-- case is this project's own.
 abbrev pub beats : ElementValue → ElementValue → Bool
 beats new old =
     nat_lt old.version new.version
-    || (new.version == old.version && (nat_lt new.nonce old.nonce || (new.nonce == old.nonce && text_less new old)))
+    || (new.version == old.version
+    && (nat_lt new.nonce old.nonce || (new.nonce == old.nonce && text_less new old)))
 
 -- the element without its stamp: its version, its nonce and its time
 abbrev pub unstamped : ElementValue → ElementValue

@@ -24,14 +24,16 @@ opened (member ∷ members) = 123 ∷ join_with_byte 44 (map member_text (member
 abbrev pub IsBegun : List ℕ → List Pair → List ℕ → Type 0
 IsBegun before members out = out ≡ before ++ opened members
 
--- what stands before one more member of an object that begins at an offset: `{` before the first, and else a comma
+-- what stands before one more member of an object that begins at an offset: `{` before the first,
+-- and else a comma
 abbrev pub mark : ℕ → List ℕ → ℕ
 mark start out = if length out == start then 123 else 44
 
 -- the first members, whose names are less than this one, and the others
 abbrev pub members_below : List ℕ → List Member → List Member
 members_below name [] = []
-members_below name (member ∷ members) = if bytes_less member.name name then member ∷ members_below name members else []
+members_below name (member ∷ members) =
+    if bytes_less member.name name then member ∷ members_below name members else []
 
 abbrev pub members_not_below : List ℕ → List Member → List Member
 members_not_below name [] = []
@@ -46,7 +48,8 @@ merged (header ∷ headers) rest = pairs (members_below header.0 rest) ++ header
 
 -- Each name is a text, and each value is a compact text that nests at most so deep.
 abbrev pub AreSound : ℕ → List Pair → Type 0
-AreSound limit members = AllByRecursion (λ (member : Pair). IsUtf8 member.0 × IsCompact limit member.1) members
+AreSound limit members =
+    AllByRecursion (λ (member : Pair). IsUtf8 member.0 × IsCompact limit member.1) members
 
 abbrev pub header_name : Header → List ℕ
 header_name BoundElements = codes "boundElements"
@@ -87,14 +90,18 @@ header_pair e header = (header_name header, header_value e header)
 -- the header members of a kind in the order of their names
 abbrev pub headers_of : Kind → List Header
 headers_of kinds.Text =
-    BoundElements ∷ ContainerId ∷ FrameId ∷ GroupIds ∷ Id ∷ Index ∷ IsDeleted ∷ KindName ∷ Updated ∷ Version
+    BoundElements ∷ ContainerId ∷ FrameId ∷ GroupIds ∷ Id ∷ Index ∷ IsDeleted ∷ KindName ∷ Updated
+    ∷ Version
     ∷ VersionNonce ∷ []
 headers_of kinds.Arrow =
-    BoundElements ∷ EndBinding ∷ FrameId ∷ GroupIds ∷ Id ∷ Index ∷ IsDeleted ∷ StartBinding ∷ KindName
+    BoundElements ∷ EndBinding ∷ FrameId ∷ GroupIds ∷ Id ∷ Index ∷ IsDeleted ∷ StartBinding
+    ∷ KindName
     ∷ Updated ∷ Version
     ∷ VersionNonce ∷ []
 headers_of kinds.Image =
-    BoundElements ∷ FileId ∷ FrameId ∷ GroupIds ∷ Id ∷ Index ∷ IsDeleted ∷ KindName ∷ Updated ∷ Version
+    BoundElements ∷ FileId ∷ FrameId ∷ GroupIds ∷ Id ∷ Index ∷ IsDeleted ∷ KindName ∷ Updated
+    ∷ Version
     ∷ VersionNonce ∷ []
-headers_of _ = BoundElements ∷ FrameId ∷ GroupIds ∷ Id ∷ Index ∷ IsDeleted ∷ KindName ∷ Updated ∷ Version
+headers_of _ =
+    BoundElements ∷ FrameId ∷ GroupIds ∷ Id ∷ Index ∷ IsDeleted ∷ KindName ∷ Updated ∷ Version
     ∷ VersionNonce ∷ []

@@ -1,4 +1,5 @@
--- The element that members say, told by look-ups of their names: the order of the members plays no part.
+-- The element that members say, told by look-ups of their names: the order of the members plays no
+-- part.
 use Rattle.std.specs.Prelude.{◌≡◌, ℕ, List, Bool, true, false, Option, None, All, IfSome, codes, bytes_eq}
 use Rattle.std.specs.Str.{IsUtf8}
 use Rattle.std.specs.List.{AllByRecursion}
@@ -16,12 +17,14 @@ abbrev pub is_named : List ℕ → Kind → Bool
 is_named name kind = bytes_eq name (kind_name kind)
 
 -- A header member of one kind alone: in the other kinds it says nothing.
-abbrev pub IsOwn : {A : Type 0} → Bool → (Option (List ℕ) → Option A → Type 0) → Option (List ℕ) → Option A → Type 0
+abbrev pub IsOwn : {A : Type 0} → Bool → (Option (List ℕ) → Option A → Type 0) → Option (List ℕ)
+    → Option A → Type 0
 IsOwn true IsForm found part = IsForm found part
 IsOwn false IsForm found part = part ≡ None
 
--- What is found under these names says this element: each header member has its form, and all else is kept. A row a
--- member. After Excalidraw's element types; the forms and that all else is kept are this project's own.
+-- What is found under these names says this element: each header member has its form, and all else
+-- is kept. A row a member. After Excalidraw's element types; the forms and that all else is kept
+-- are this project's own.
 pub record Says (find : Find) (e : ElementValue) : Type 0 where
   pub id : IsId (find (codes "id")) e.id
   pub kind : IsKindName (find (codes "type")) e.kind
@@ -33,9 +36,12 @@ pub record Says (find : Find) (e : ElementValue) : Type 0 where
   pub groups : AreTexts (find (codes "groupIds")) e.groups
   pub frame : IsTextOrNull (find (codes "frameId")) e.frame
   pub bound : IsListing (find (codes "boundElements")) e.bound
-  pub container : IsOwn (is_named (codes "text") e.kind) IsTextOrNull (find (codes "containerId")) e.container
-  pub start_binding : IsOwn (is_named (codes "arrow") e.kind) IsBindingOrNull (find (codes "startBinding")) e.start_binding
-  pub end_binding : IsOwn (is_named (codes "arrow") e.kind) IsBindingOrNull (find (codes "endBinding")) e.end_binding
+  pub container : IsOwn (is_named (codes "text") e.kind) IsTextOrNull (find (codes "containerId"))
+      e.container
+  pub start_binding : IsOwn (is_named (codes "arrow") e.kind) IsBindingOrNull
+      (find (codes "startBinding")) e.start_binding
+  pub end_binding : IsOwn (is_named (codes "arrow") e.kind) IsBindingOrNull
+      (find (codes "endBinding")) e.end_binding
   pub file : IsOwn (is_named (codes "image") e.kind) IsTextOrNull (find (codes "fileId")) e.file
   pub rest : AreOthers (is_header e.kind) find e.rest
 

@@ -41,18 +41,21 @@ abbrev pub text_or_null : Option (List ℕ) → List ℕ
 text_or_null None = null_word
 text_or_null (Some text) = quote text
 
--- Members in the order of the bytes of their names: each goes before the first whose name is greater.
+-- Members in the order of the bytes of their names: each goes before the first whose name is
+-- greater.
 abbrev pub with_member : Pair → List Pair → List Pair
 with_member member [] = member ∷ []
 with_member member (other ∷ others) =
-    if bytes_less other.0 member.0 then other ∷ with_member member others else member ∷ other ∷ others
+    if bytes_less other.0 member.0 then other ∷ with_member member others else member ∷ other
+    ∷ others
 
 abbrev pub sorted_members : List Pair → List Pair
 sorted_members [] = []
 sorted_members (member ∷ members) = with_member member (sorted_members members)
 
 abbrev pub bound_text : BoundRef → List ℕ
-bound_text entry = object_text ((codes "id", quote entry.id) ∷ (codes "type", quote (role_name entry.role)) ∷ [])
+bound_text entry =
+    object_text ((codes "id", quote entry.id) ∷ (codes "type", quote (role_name entry.role)) ∷ [])
 
 abbrev pub binding_text : Option Binding → List ℕ
 binding_text None = null_word
@@ -62,7 +65,8 @@ binding_text (Some binding) =
 -- the members that a kind has beside those of all kinds
 abbrev pub own_members : ElementValue → Kind → List Pair
 own_members e Text = (codes "containerId", text_or_null e.container) ∷ []
-own_members e Arrow = (codes "startBinding", binding_text e.start_binding) ∷ (codes "endBinding", binding_text e.end_binding) ∷ []
+own_members e Arrow = (codes "startBinding", binding_text e.start_binding)
+    ∷ (codes "endBinding", binding_text e.end_binding) ∷ []
 own_members e Image = (codes "fileId", text_or_null e.file) ∷ []
 own_members e Rectangle = []
 own_members e Diamond = []
@@ -79,7 +83,8 @@ own_members e (Other name) = []
 abbrev pub header_members : ElementValue → List Pair
 header_members e =
     (codes "id", quote e.id) ∷ (codes "type", quote (kind_name e.kind))
-    ∷ (codes "version", decimal e.version) ∷ (codes "versionNonce", decimal e.nonce) ∷ (codes "updated", decimal e.updated)
+    ∷ (codes "version", decimal e.version) ∷ (codes "versionNonce", decimal e.nonce)
+    ∷ (codes "updated", decimal e.updated)
     ∷ (codes "isDeleted", truth_text e.deleted) ∷ (codes "index", text_or_null e.index)
     ∷ (codes "groupIds", array_text (map quote e.groups)) ∷ (codes "frameId", text_or_null e.frame)
     ∷ (codes "boundElements", array_text (map bound_text e.bound)) ∷ own_members e e.kind

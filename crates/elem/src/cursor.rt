@@ -15,8 +15,8 @@ use crate::value::{Value, first_below, member_piece, object_end, object_mark, va
 use json_text::Member;
 use std::marker::Model;
 
-/// What is left of an element's text: of a piece of it, of the value that the piece belongs to, and its further
-/// members.
+/// What is left of an element's text: of a piece of it, of the value that the piece belongs to, and
+/// its further members.
 #[derive(Drop)]
 pub(crate) struct Cursor<'a> {
     source: Source<'a>,
@@ -25,8 +25,8 @@ pub(crate) struct Cursor<'a> {
     members: Members<'a>,
 }
 
-/// The members of an element that are left: header members, and others, until the object is closed. The truth tells
-/// that none was read.
+/// The members of an element that are left: header members, and others, until the object is closed.
+/// The truth tells that none was read.
 #[derive(Clone, Copy)]
 pub(crate) enum Members<'a> {
     Open(bool, &'static [Header], &'a [Member]),
@@ -60,7 +60,8 @@ impl<'a> Cursor<'a> {
 
     /// Takes the next byte.
     pub(crate) fn next(&mut self) -> Option<u8>
-        ensures { MatchOption result ((self.old ≡ []) × (self.new ≡ [])) (λ byte. self.old ≡ byte ∷ self.new) }
+        ensures { MatchOption result ((self.old ≡ []) × (self.new ≡ [])) (λ byte. self.old ≡ byte
+            ∷ self.new) }
     {
         if let Some(byte) = self.piece.next() {
             return Some(byte);
@@ -80,7 +81,8 @@ impl<'a> Cursor<'a> {
 
 /// All members of an element.
 fn members_of(e: &Element) -> Members<'_>
-    ensures { (source : Source) → source.e.now ≡ e.now → members_left source result ≡ element_text e.now }
+    ensures { (source : Source) → source.e.now ≡ e.now
+        → members_left source result ≡ element_text e.now }
 {
     Members::Open(true, headers_of(&e.kind), e.rest.as_slice())
 }
@@ -148,7 +150,8 @@ fn next_kept<'a>(first: bool, rest: &'a [Member]) -> (Piece<'a>, Value<'a>, Memb
 /// A piece of a header member, and what is left of its value.
 fn header_piece<'a>(source: Source<'a>, first: bool, header: Header) -> (Piece<'a>, Value<'a>)
     requires { IsElementSource source }
-    ensures { Splits ((if first then 123 else 44) ∷ member_text (header_pair source.entry.e.now header))
+    ensures { Splits ((if first then 123 else 44)
+        ∷ member_text (header_pair source.entry.e.now header))
         result.0 (value_left result.1) }
 {
     let start = value_of(source, header);

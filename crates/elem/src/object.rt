@@ -60,7 +60,8 @@ pub(crate) fn push_members(
     members: &[Member],
 ) -> Result<(), AllocError>
     ensures begun { OnOk result ((before : Items ℕ) (first : Items Pair) → start ≡ length before
-        → IsBegun before first out.old.items → IsBegun before (first ++ pairs members.now) out.new.items) }
+        → IsBegun before first out.old.items
+        → IsBegun before (first ++ pairs members.now) out.new.items) }
     ensures named { OnOk result (All (λ m. IsUtf8 m.name) members.now) }
     ensures kept { Extends out.old.items out.new.items }
 {
@@ -71,18 +72,20 @@ pub(crate) fn push_members(
     Ok(())
 }
 
-/// Begins a member in an object that begins at an offset, where the name's quote and the colon behind it are these
-/// bytes.
+/// Begins a member in an object that begins at an offset, where the name's quote and the colon
+/// behind it are these bytes.
 #[tactic(auto, using(crate::proofs::Appending::extends_same, crate::proofs::Appending::extends_by, crate::proofs::Appending::extends_then))]
 pub(crate) fn begin_quoted(out: &mut Vec<u8>, start: usize, head: &[u8]) -> Result<(), AllocError>
-    ensures text { OnOk result (out.new.items ≡ (out.old.items ++ mark start out.old.items ∷ []) ++ head.now) }
+    ensures text { OnOk result (out.new.items ≡ (out.old.items ++ mark start out.old.items ∷ [])
+        ++ head.now) }
     ensures kept { OnErr result (Extends out.old.items out.new.items) }
 {
     push_mark(out, start)?;
     out.extend_from_slice(head)
 }
 
-/// Appends what stands before a member of an object that begins at an offset: `{` before the first, and else a comma.
+/// Appends what stands before a member of an object that begins at an offset: `{` before the first,
+/// and else a comma.
 pub(crate) fn push_mark(out: &mut Vec<u8>, start: usize) -> Result<(), AllocError>
     ensures ok { OnOk result (out.new.items ≡ out.old.items ++ mark start out.old.items ∷ []) }
     ensures err { OnErr result (out.new.items ≡ out.old.items) }

@@ -12,9 +12,9 @@ use crate::element::Element;
 use crate::source::Source;
 use itoa::Buffer;
 
-/// Whether the new element takes the place of the old one of the same id: its version is higher, or the versions are
-/// equal and its nonce is lower, or both are equal and its text is less. Source: Excalidraw's reconcile; the last case
-/// is this project's own.
+/// Whether the new element takes the place of the old one of the same id: its version is higher, or
+/// the versions are equal and its nonce is lower, or both are equal and its text is less. Source:
+/// Excalidraw's reconcile; the last case is this project's own.
 pub fn beats(new: &Element, old: &Element) -> bool
     ensures { result ≡ order.beats new.now old.now }
 {
@@ -27,7 +27,8 @@ pub fn beats(new: &Element, old: &Element) -> bool
     text_less(new, old)
 }
 
-/// Whether the text of the one is less than that of the other, in the order of their bytes. Neither is made.
+/// Whether the text of the one is less than that of the other, in the order of their bytes. Neither
+/// is made.
 #[tactic(auto, unfolding(crate::specs::Order::text_less))]
 pub fn text_less(a: &Element, b: &Element) -> bool
     ensures { result ≡ order.text_less a.now b.now }

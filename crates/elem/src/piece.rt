@@ -71,7 +71,8 @@ impl<'a> Piece<'a> {
 
     /// Takes the next byte.
     pub(crate) fn next(&mut self) -> Option<u8>
-        ensures { MatchOption result ((self.old ≡ []) × (self.new ≡ [])) (λ byte. self.old ≡ byte ∷ self.new) }
+        ensures { MatchOption result ((self.old ≡ []) × (self.new ≡ [])) (λ byte. self.old ≡ byte
+            ∷ self.new) }
     {
         if let Some((byte, rest)) = self.mark.split_first() {
             self.mark = rest;

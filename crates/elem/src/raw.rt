@@ -24,8 +24,8 @@ use json_text::{Raw, push_quote, whole_or_cut};
 use scene_json::{push_comma, push_whole, raw_of};
 use std::alloc::{AllocError, Global};
 
-/// The text of an element: the object of its header members and of all others, in the order of the bytes of their
-/// names. Fails only for want of memory.
+/// The text of an element: the object of its header members and of all others, in the order of the
+/// bytes of their names. Fails only for want of memory.
 pub fn element_raw(alloc: Global, e: &Element) -> Result<Raw, AllocError>
     ensures text { IfOk result (λ raw. raw ≡ element_text e.now) }
     ensures sorted { IfOk result
@@ -44,7 +44,8 @@ pub fn push_element(out: &mut Vec<u8>, e: &Element) -> Result<(), AllocError>
     ensures text { OnOk result (out.new.items ≡ out.old.items ++ element_text e.now) }
     ensures err { OnErr result (out.new.items ≡ out.old.items) }
     ensures nests { OnOk result (IsCompact 120 (element_text e.now)) }
-    ensures rise { OnOk result (IsTrue (are_rising (map (λ (member : Pair). member.0) (element_members e.now)))) }
+    ensures rise { OnOk result (IsTrue
+        (are_rising (map (λ (member : Pair). member.0) (element_members e.now)))) }
 {
     let start = out.len();
     let appended = push_element_parts(out, e);
@@ -56,7 +57,8 @@ fn push_element_parts(out: &mut Vec<u8>, e: &Element) -> Result<(), AllocError>
     ensures text { OnOk result (out.new.items ≡ out.old.items ++ element_text e.now) }
     ensures kept { OnErr result (Extends out.old.items out.new.items) }
     ensures nests { OnOk result (IsCompact 120 (element_text e.now)) }
-    ensures rise { OnOk result (IsTrue (are_rising (map (λ (member : Pair). member.0) (element_members e.now)))) }
+    ensures rise { OnOk result (IsTrue
+        (are_rising (map (λ (member : Pair). member.0) (element_members e.now)))) }
 {
     let start = out.len();
     let mut rest = e.rest.as_slice();
@@ -71,7 +73,8 @@ fn push_element_parts(out: &mut Vec<u8>, e: &Element) -> Result<(), AllocError>
 
 /// Appends the texts of elements, with commas between them. For want of memory nothing is appended.
 pub fn push_elements(out: &mut Vec<u8>, elements: &[Element]) -> Result<(), AllocError>
-    ensures text { OnOk result (out.new.items ≡ out.old.items ++ join_with_byte 44 (map element_text elements.now)) }
+    ensures text { OnOk result (out.new.items ≡ out.old.items
+        ++ join_with_byte 44 (map element_text elements.now)) }
     ensures err { OnErr result (out.new.items ≡ out.old.items) }
     ensures nest { OnOk result (All (λ e. IsCompact 120 (element_text e)) elements.now) }
 {
@@ -82,7 +85,8 @@ pub fn push_elements(out: &mut Vec<u8>, elements: &[Element]) -> Result<(), Allo
 
 /// Appends the texts of elements. After want of memory a part of them may stand there.
 fn push_elements_parts(out: &mut Vec<u8>, elements: &[Element]) -> Result<(), AllocError>
-    ensures text { OnOk result (out.new.items ≡ out.old.items ++ join_with_byte 44 (map element_text elements.now)) }
+    ensures text { OnOk result (out.new.items ≡ out.old.items
+        ++ join_with_byte 44 (map element_text elements.now)) }
     ensures kept { OnErr result (Extends out.old.items out.new.items) }
     ensures nest { OnOk result (All (λ e. IsCompact 120 (element_text e)) elements.now) }
 {
@@ -111,8 +115,8 @@ fn push_header(
     push_named(out, e, header)
 }
 
-/// Appends a header member's name in quotes, a colon and its value. Each name is written out here, so that its length
-/// is known when it is copied.
+/// Appends a header member's name in quotes, a colon and its value. Each name is written out here,
+/// so that its length is known when it is copied.
 #[tactic(auto, using(crate::proofs::Appending::extends_same, crate::proofs::Appending::extends_by, crate::proofs::Appending::extends_then, crate::proofs::Appending::on_err_same, crate::proofs::Appending::on_err_then), unfolding(json_text::specs::Characters::quote))]
 fn push_named(out: &mut Vec<u8>, e: &Element, header: Header) -> Result<(), AllocError>
     ensures text { OnOk result (out.new.items
@@ -180,7 +184,8 @@ fn push_named(out: &mut Vec<u8>, e: &Element, header: Header) -> Result<(), Allo
     }
 }
 
-/// Appends the object of a binding, its members in the order of the bytes of their names, or null where there is none.
+/// Appends the object of a binding, its members in the order of the bytes of their names, or null
+/// where there is none.
 #[tactic(auto, using(crate::proofs::Appending::extends_same, crate::proofs::Appending::extends_by, crate::proofs::Appending::extends_then, crate::proofs::Appending::on_err_same))]
 fn push_binding(out: &mut Vec<u8>, binding: &Option<Binding>) -> Result<(), AllocError>
     requires { IfSome binding.now IsBinding }

@@ -8,8 +8,8 @@ use std::alloc::{AllocError, Global};
 use std::marker::Model;
 use std::rc::Rc;
 
-/// An element that never changes: its copies share one place in memory, and little is moved where another one comes
-/// before it in a list. Contracts see the element.
+/// An element that never changes: its copies share one place in memory, and little is moved where
+/// another one comes before it in a list. Contracts see the element.
 pub struct SharedElement {
     element: Rc<Element>,
 }
@@ -45,7 +45,8 @@ impl SharedElement {
         SharedElement::new(alloc, e.try_clone()?)
     }
 
-    /// The same element once more. It takes no memory, and fails only where it is shared too often to be counted.
+    /// The same element once more. It takes no memory, and fails only where it is shared too often
+    /// to be counted.
     pub fn try_clone(&self) -> Result<SharedElement, AllocError>
         ensures { IfOk result (λ copy. copy ≡ self.now) }
     {

@@ -1,4 +1,5 @@
-//! What the types of an element's texts keep. Of a text alone a read of it says that it is UTF-8, so each is read.
+//! What the types of an element's texts keep. Of a text alone a read of it says that it is UTF-8,
+//! so each is read.
 
 ghost use Rattle.std.specs.Prelude.{◌≡◌, true, IfSome};
 ghost use Rattle.std.specs.List.{AllByRecursion};

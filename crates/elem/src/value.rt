@@ -19,7 +19,8 @@ use crate::source::Source;
 use frac_keys::Key;
 use json_text::{Member, QuoteBytes, Text};
 
-/// What is left of the value of a header member, behind a piece of it. The truth tells that nothing of it was read.
+/// What is left of the value of a header member, behind a piece of it. The truth tells that nothing
+/// of it was read.
 #[derive(Clone, Copy)]
 pub(crate) enum Value<'a> {
     Nothing,
@@ -238,7 +239,8 @@ fn array_end(first: bool) -> &'static [u8]
 
 /// The next entry of a listing.
 fn next_entry(first: bool, entries: &[BoundRef]) -> (Piece<'_>, Value<'_>)
-    ensures { Splits (list_left 91 93 first (map bound_text entries.now)) result.0 (value_left result.1) }
+    ensures { Splits (list_left 91 93 first (map bound_text entries.now)) result.0
+        (value_left result.1) }
 {
     match entries.split_first() {
         None => (Piece::plain(array_end(first)), Value::Nothing),
@@ -280,7 +282,8 @@ fn role_end(role: Role) -> &'static [u8]
 
 /// The next member of a binding.
 fn next_bound<'a>(first: bool, target: &'a Text, rest: &'a [Member]) -> (Piece<'a>, Value<'a>)
-    ensures { Splits (object_left first ((codes "elementId", quote target.now) ∷ []) rest.now) result.0 (value_left result.1) }
+    ensures { Splits (object_left first ((codes "elementId", quote target.now) ∷ []) rest.now)
+        result.0 (value_left result.1) }
 {
     match first_below(rest, "elementId") {
         Some((member, rest)) => {
@@ -343,7 +346,8 @@ pub(crate) fn first_below<'a>(
     name: &str,
 ) -> Option<(&'a Member, &'a [Member])>
     ensures { MatchOption result (members_below name.now members.now ≡ [])
-        (λ found. (members.now ≡ found.0.now ∷ found.1.now) × (bytes_less found.0.now.name name.now ≡ true)) }
+        (λ found. (members.now ≡ found.0.now ∷ found.1.now)
+        × (bytes_less found.0.now.name name.now ≡ true)) }
 {
     match members.split_first() {
         Some((member, others)) if is_below(member, name) => Some((member, others)),

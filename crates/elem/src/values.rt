@@ -120,7 +120,8 @@ pub(crate) fn push_texts(out: &mut Vec<u8>, texts: &List<Text>) -> Result<(), Al
 /// Appends the array of the entries of a listing.
 #[tactic(auto, using(crate::proofs::Appending::extends_same, crate::proofs::Appending::extends_by, crate::proofs::Appending::extends_then))]
 pub(crate) fn push_listing(out: &mut Vec<u8>, entries: &List<BoundRef>) -> Result<(), AllocError>
-    ensures text { OnOk result (out.new.items ≡ out.old.items ++ array_text (map bound_text entries.now)) }
+    ensures text { OnOk result (out.new.items ≡ out.old.items
+        ++ array_text (map bound_text entries.now)) }
     ensures kept { OnErr result (Extends out.old.items out.new.items) }
     ensures nests { OnOk result (IsCompact 2 (array_text (map bound_text entries.now))) }
 {

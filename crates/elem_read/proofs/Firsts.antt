@@ -61,7 +61,8 @@ below-more : (m n : ℕ) → m < suc n → (m < n) ⊎ (m ≡ n)
 below-more m n h = elim (cases_lt m n) [ inl below ↦ inl below | inr above ↦ inr (omega arith) ]
 
 -- one fault more that doesn't come
-pub passes-next : (find : Find) (n : ℕ) (fault : ElemFault) → place_of fault ≡ n → Passes n find → (Fails fault find → ⊥) → Passes (suc n) find
+pub passes-next : (find : Find) (n : ℕ) (fault : ElemFault) → place_of fault ≡ n → Passes n find
+    → (Fails fault find → ⊥) → Passes (suc n) find
 passes-next find n fault at before none other below comes =
     elim (below-more (place_of other) n below) [
       | inl less ↦ before other less comes
@@ -69,7 +70,8 @@ passes-next find n fault at before none other below comes =
     ]
 
 pub passes-members : (find : Find) → Passes 2 find
-passes-members find = passes-next find 1 Depth refl (passes-next find 0 NotObject refl (λ other below. absurd (omega arith)) (λ h. h)) (λ h. h)
+passes-members find = passes-next find 1 Depth refl
+    (passes-next find 0 NotObject refl (λ other below. absurd (omega arith)) (λ h. h)) (λ h. h)
 
 -- two first faults are one
 pub first-once : (find : Find) (a b : ElemFault) → IsFirst find a → IsFirst find b → a ≡ b
@@ -83,11 +85,13 @@ first-once find a b one two =
     ]
 
 -- ---- a part that can't be read
-pub failed : {A B : Type 0} (P : A → Type 0) (Q : B → Type 0) (known fault : ElemFault) (stop : Stop ElemFault) → ReadsOr P Q known (Err stop) → stop ≡ Fault fault → (fault ≡ known) × Lacks Q
+pub failed : {A B : Type 0} (P : A → Type 0) (Q : B → Type 0) (known fault : ElemFault) (stop : Stop ElemFault)
+    → ReadsOr P Q known (Err stop) → stop ≡ Fault fault → (fault ≡ known) × Lacks Q
 failed P Q known fault (Fault other) is e = let same : fault ≡ other = cc in (same ∙ is.0, is.1)
 failed P Q known fault Memory is e = cc
 
-pub first-at : {A B : Type 0} (find : Find) (P : A → Type 0) (Q : B → Type 0) (known fault : ElemFault) (stop : Stop ElemFault) → ReadsOr P Q known (Err stop) → stop ≡ Fault fault
+pub first-at : {A B : Type 0} (find : Find) (P : A → Type 0) (Q : B
+    → Type 0) (known fault : ElemFault) (stop : Stop ElemFault) → ReadsOr P Q known (Err stop) → stop ≡ Fault fault
     → Passes (place_of known) find → (Lacks Q → Fails known find) → IsFirst find fault
 first-at find P Q known fault stop is e before fails =
     let both = failed P Q known fault stop is e in
@@ -95,28 +99,35 @@ first-at find P Q known fault stop is e before fails =
 
 -- ---- the parts of one kind alone
 -- the kind of this name
-name-held : (found : Option (List ℕ)) (name : List ℕ) (kind : kinds.Kind) → IsText found name → IsKindName found kind → is_named name kind ≡ true
+name-held : (found : Option (List ℕ)) (name : List ℕ) (kind : kinds.Kind) → IsText found name → IsKindName found kind
+    → is_named name kind ≡ true
 name-held found name kind text is =
     ap (bytes_eq name) (sym (text-once found name (kind_name kind) text is.0)) ∙ bytes_eq-same name
 
-name-told : (found : Option (List ℕ)) (name : List ℕ) (kind : kinds.Kind) → IsKindName found kind → is_named name kind ≡ true → IsText found name
+name-told : (found : Option (List ℕ)) (name : List ℕ) (kind : kinds.Kind) → IsKindName found kind
+    → is_named name kind ≡ true → IsText found name
 name-told found name kind is same = subst (IsText found) (sym (bytes_eq-true name (kind_name kind) same)) is.0
 
-own-form : {A : Type 0} (own : Bool) (IsForm : Option (List ℕ) → Option A → Type 0) (found : Option (List ℕ)) (part : Option A) → own ≡ true → IsOwn own IsForm found part → IsForm found part
+own-form : {A : Type 0} (own : Bool) (IsForm : Option (List ℕ) → Option A
+    → Type 0) (found : Option (List ℕ)) (part : Option A) → own ≡ true → IsOwn own IsForm found part → IsForm found part
 own-form true IsForm found part e is = is
 own-form false IsForm found part e is = cc
 
-own-lacks : {A : Type 0} (own : Bool) (IsForm : Option (List ℕ) → Option A → Type 0) (found : Option (List ℕ)) → Lacks (IsOwn own IsForm found) → (own ≡ true) × Lacks (IsForm found)
+own-lacks : {A : Type 0} (own : Bool) (IsForm : Option (List ℕ) → Option A → Type 0) (found : Option (List ℕ))
+    → Lacks (IsOwn own IsForm found) → (own ≡ true) × Lacks (IsForm found)
 own-lacks true IsForm found lacks = (refl, lacks)
 own-lacks false IsForm found lacks = absurd (lacks None refl)
 
 -- where the part of the kind is read, it isn't faulty
-own-held : {A : Type 0} (find : Find) (name member : List ℕ) (IsForm : Option (List ℕ) → Option A → Type 0) (kind : kinds.Kind) (part : Option A) → IsKindName (find (codes "type")) kind
+own-held : {A : Type 0} (find : Find) (name member : List ℕ) (IsForm : Option (List ℕ) → Option A
+    → Type 0) (kind : kinds.Kind) (part : Option A) → IsKindName (find (codes "type")) kind
     → IsOwn (is_named name kind) IsForm (find member) part → LacksOwn find name IsForm member → ⊥
 own-held find name member IsForm kind part is read lacks =
-    lacks.1 part (own-form (is_named name kind) IsForm (find member) part (name-held (find (codes "type")) name kind lacks.0 is) read)
+    lacks.1 part (own-form (is_named name kind) IsForm (find member) part
+    (name-held (find (codes "type")) name kind lacks.0 is) read)
 
-pub own-fails : {A : Type 0} (find : Find) (name member : List ℕ) (IsForm : Option (List ℕ) → Option A → Type 0) (kind : kinds.Kind) → IsKindName (find (codes "type")) kind
+pub own-fails : {A : Type 0} (find : Find) (name member : List ℕ) (IsForm : Option (List ℕ) → Option A
+    → Type 0) (kind : kinds.Kind) → IsKindName (find (codes "type")) kind
     → Lacks (IsOwn (is_named name kind) IsForm (find member)) → LacksOwn find name IsForm member
 own-fails find name member IsForm kind is lacks =
     let both = own-lacks (is_named name kind) IsForm (find member) lacks in
@@ -148,29 +159,37 @@ module _ (find : Find) where
   pub after-groups : (texts : List (List ℕ)) → AreTexts (find (codes "groupIds")) texts → Passes 9 find → Passes 10 find
   after-groups texts is before = passes-next find 9 Groups refl before (λ lacks. lacks texts is)
 
-  pub after-frame : (text : Option (List ℕ)) → IsTextOrNull (find (codes "frameId")) text → Passes 10 find → Passes 11 find
+  pub after-frame : (text : Option (List ℕ)) → IsTextOrNull (find (codes "frameId")) text → Passes 10 find
+      → Passes 11 find
   after-frame text is before = passes-next find 10 Frame refl before (λ lacks. lacks text is)
 
-  pub after-bound : (entries : List BoundRef) → IsListing (find (codes "boundElements")) entries → Passes 11 find → Passes 12 find
+  pub after-bound : (entries : List BoundRef) → IsListing (find (codes "boundElements")) entries → Passes 11 find
+      → Passes 12 find
   after-bound entries is before = passes-next find 11 Bound refl before (λ lacks. lacks entries is)
 
-  pub after-container : (kind : kinds.Kind) (text : Option (List ℕ)) → IsKindName (find (codes "type")) kind → IsOwn (is_named (codes "text") kind) IsTextOrNull (find (codes "containerId")) text
+  pub after-container : (kind : kinds.Kind) (text : Option (List ℕ)) → IsKindName (find (codes "type")) kind
+      → IsOwn (is_named (codes "text") kind) IsTextOrNull (find (codes "containerId")) text
       → Passes 12 find → Passes 13 find
   after-container kind text is read before =
-      passes-next find 12 Container refl before (own-held find (codes "text") (codes "containerId") IsTextOrNull kind text is read)
+      passes-next find 12 Container refl before (own-held find (codes "text") (codes "containerId") IsTextOrNull kind
+      text is read)
 
-  pub after-bindings : (kind : kinds.Kind) (start end : Option Bind) → IsKindName (find (codes "type")) kind → IsOwn (is_named (codes "arrow") kind) IsBindingOrNull (find (codes "startBinding")) start
-      → IsOwn (is_named (codes "arrow") kind) IsBindingOrNull (find (codes "endBinding")) end → Passes 13 find → Passes 14 find
+  pub after-bindings : (kind : kinds.Kind) (start end : Option Bind) → IsKindName (find (codes "type")) kind
+      → IsOwn (is_named (codes "arrow") kind) IsBindingOrNull (find (codes "startBinding")) start
+      → IsOwn (is_named (codes "arrow") kind) IsBindingOrNull (find (codes "endBinding")) end → Passes 13 find
+      → Passes 14 find
   after-bindings kind start end is first second before = passes-next find 13 Binding refl before none
     where
       none : Fails Binding find → ⊥
       none (inl lacks) = own-held find (codes "arrow") (codes "startBinding") IsBindingOrNull kind start is first lacks
       none (inr lacks) = own-held find (codes "arrow") (codes "endBinding") IsBindingOrNull kind end is second lacks
 
-  pub after-file : (kind : kinds.Kind) (text : Option (List ℕ)) → IsKindName (find (codes "type")) kind → IsOwn (is_named (codes "image") kind) IsTextOrNull (find (codes "fileId")) text
+  pub after-file : (kind : kinds.Kind) (text : Option (List ℕ)) → IsKindName (find (codes "type")) kind
+      → IsOwn (is_named (codes "image") kind) IsTextOrNull (find (codes "fileId")) text
       → Passes 14 find → Passes 15 find
   after-file kind text is read before =
-      passes-next find 14 File refl before (own-held find (codes "image") (codes "fileId") IsTextOrNull kind text is read)
+      passes-next find 14 File refl before (own-held find (codes "image") (codes "fileId") IsTextOrNull kind text is
+      read)
 
 within : (fault : ElemFault) → place_of fault < 15
 within NotObject = lit< tt

@@ -6,15 +6,18 @@ use Rattle.json_text.proofs.CallerLemmas.{bytes_eq-true}
 use Rattle.scene_json.specs.Named.{value_at, HaveRisingNames}
 use Rattle.scene_json.proofs.CallerLemmas.{rising_parts, value_at-below}
 
-pub found-later : (name value : List ℕ) (ms : List Member) (i : ℕ) → HaveRisingNames (pairs ms) → value_at name (pairs (drop i ms)) ≡ Some value → value_at name (pairs ms) ≡ Some value
+pub found-later : (name value : List ℕ) (ms : List Member) (i : ℕ) → HaveRisingNames (pairs ms)
+    → value_at name (pairs (drop i ms)) ≡ Some value → value_at name (pairs ms) ≡ Some value
 found-later name value ms zero rise found = found
 found-later name value [] (suc i) rise found = found
 found-later name value (m ∷ ms) (suc i) rise found =
     let parts = rising_parts (m.name, m.value) (pairs ms) rise in
     let later : value_at name (pairs ms) ≡ Some value = found-later name value ms i parts.1 found in
-    elim (bytes_eq name m.name) as (λ b. bytes_eq name m.name ≡ b → cond b (Some m.value) (value_at name (pairs ms)) ≡ Some value) [
+    elim (bytes_eq name m.name) as (λ b. bytes_eq name m.name ≡ b → cond b (Some m.value) (value_at name (pairs ms))
+    ≡ Some value) [
       | true ↦ λ e.
-          let none : value_at name (pairs ms) ≡ None = rw (bytes_eq-true name m.name e) (value_at-below m.name (pairs ms) parts.0) in
+          let none : value_at name (pairs ms) ≡ None =
+          rw (bytes_eq-true name m.name e) (value_at-below m.name (pairs ms) parts.0) in
           absurd cc
       | false ↦ λ e. later
     ] refl

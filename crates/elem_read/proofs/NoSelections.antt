@@ -24,13 +24,16 @@ use Rattle.elem_read.specs.declared.fault.ElemFault.TheVariants.{NotObject, Dept
 use Rattle.elem_read.proofs.Keeping.{AllFound, found-has, object-nests}
 
 -- what a value is that was taken apart
-pub taken-apart : (value : List ℕ) (taken : Option (List Member)) → ((ms : List Member) → taken ≡ Some ms → AreMembers 127 (pairs ms) × (value ≡ object_text (pairs ms)))
+pub taken-apart : (value : List ℕ) (taken : Option (List Member))
+    → ((ms : List Member) → taken ≡ Some ms → AreMembers 127 (pairs ms) × (value ≡ object_text (pairs ms)))
     → (taken ≡ None → (members : List Pair) → value ≢ object_text members) → IsTakenApart value taken
 taken-apart value None some none = none refl
 taken-apart value (Some ms) some none = some ms refl
 
-pub taken-object : (value : List ℕ) (taken : Option (List Member)) (ms : List Member) → IsTakenApart value taken → taken ≡ Some ms → IsObject value (pairs ms)
-taken-object value taken ms is e = let some = subst (IsTakenApart value) e is in record { are_members = some.0; spelled = some.1 }
+pub taken-object : (value : List ℕ) (taken : Option (List Member)) (ms : List Member) → IsTakenApart value taken
+    → taken ≡ Some ms → IsObject value (pairs ms)
+taken-object value taken ms is e =
+    let some = subst (IsTakenApart value) e is in record { are_members = some.0; spelled = some.1 }
 
 pub is-object : (value : List ℕ) (ms : List Pair) → value ≡ object_text ms → AreMembers 127 ms → IsObject value ms
 is-object value ms spelled are = record { are_members = are; spelled = spelled }
@@ -38,40 +41,76 @@ is-object value ms spelled are = record { are_members = are; spelled = spelled }
 pub no-object : (value : List ℕ) → ((members : List Pair) → value ≢ object_text members) → IsFaultIn value NotObject
 no-object value none = λ members object. none members object.spelled
 
-pub selection : (value : List ℕ) (ms : List Pair) → IsObject value ms → value_at (codes "type") ms ≡ Some selection_text → IsSelection value
+pub selection : (value : List ℕ) (ms : List Pair) → IsObject value ms → value_at (codes "type") ms ≡ Some selection_text
+    → IsSelection value
 selection value ms object kind = record { members = ms; object = object; kind = kind }
 
-pub no_selection : (value : List ℕ) (ms : List Pair) → IsObject value ms → value_at (codes "type") ms ≢ Some selection_text → IsNoSelection value ms
+pub no_selection : (value : List ℕ) (ms : List Pair) → IsObject value ms
+    → value_at (codes "type") ms ≢ Some selection_text → IsNoSelection value ms
 no_selection value ms object kind = record { object = object; kind = kind }
 
 -- the members of a value that nests at most 120
-pub given-nest : (value : List ℕ) (ms : List Member) → IsObject value (pairs ms) → IsCompact 120 value → All (λ (m : Member). IsCompact 119 m.value) ms
-given-nest value ms object shallow = AreMembers-values 119 ms (object-nests 120 value (pairs ms) (lit≤ tt) (lit≤ tt) shallow object)
+pub given-nest : (value : List ℕ) (ms : List Member) → IsObject value (pairs ms) → IsCompact 120 value
+    → All (λ (m : Member). IsCompact 119 m.value) ms
+given-nest value ms object shallow =
+    AreMembers-values 119 ms (object-nests 120 value (pairs ms) (lit≤ tt) (lit≤ tt) shallow object)
 
-values-found : (limit : ℕ) (ms : List Member) → AllByRecursion (λ (m : Member). IsCompact limit m.value) ms → AllByRecursion (λ (m : Pair). IsCompact limit m.1) (pairs ms)
+values-found : (limit : ℕ) (ms : List Member) → AllByRecursion (λ (m : Member). IsCompact limit m.value) ms
+    → AllByRecursion (λ (m : Pair). IsCompact limit m.1) (pairs ms)
 values-found limit [] is = tt
 values-found limit (m ∷ ms) is = (is.0, values-found limit ms is.1)
 
-pub nest-given : (value : List ℕ) (ms : List Member) → IsObject value (pairs ms) → All (λ (m : Member). IsCompact 119 m.value) ms → IsCompact 120 value
+pub nest-given : (value : List ℕ) (ms : List Member) → IsObject value (pairs ms)
+    → All (λ (m : Member). IsCompact 119 m.value) ms → IsCompact 120 value
 nest-given value ms object each =
     let are = object.are_members in
-    rw object.spelled (object-compact 119 (pairs ms) (record { named = are.named; valued = values-found 119 ms (recursion_from_All (λ (m : Member). IsCompact 119 m.value) ms each); distinct = are.distinct }))
+    rw object.spelled (object-compact 119 (pairs ms)
+    (record {
+      named = are.named;
+      valued =
+          values-found 119 ms (recursion_from_All (λ (m : Member). IsCompact 119 m.value) ms each);
+      distinct =
+          are.distinct;
+    }))
 
 -- restoring keeps the type
-pub kind-stays : (ms rs : List Pair) → AreRestored ms rs → value_at (codes "type") ms ≢ Some selection_text → value_at (codes "type") rs ≢ Some selection_text
+pub kind-stays : (ms rs : List Pair) → AreRestored ms rs → value_at (codes "type") ms ≢ Some selection_text
+    → value_at (codes "type") rs ≢ Some selection_text
 kind-stays ms rs are kept there =
-    kept (sym (unknown-stays ms rs (codes "type") are (λ e. both_ways (bytes_eq (codes "type") old_name) refl (ap (λ n. bytes_eq n old_name) e ∙ bytes_eq-same old_name)) refl) ∙ there)
+    kept
+    (sym (unknown-stays ms rs (codes "type") are (λ e. both_ways (bytes_eq (codes "type") old_name) refl
+    (ap (λ n. bytes_eq n old_name) e ∙ bytes_eq-same old_name)) refl) ∙ there)
 
-pub members-found : (ms : List Member) → All (λ (m : Member). IsCompact 119 m.value) ms → AllFound (λ name value. IsCompact 119 value) (find_in (pairs ms))
-members-found ms is = found-has (λ name value. IsCompact 119 value) (pairs ms) (values-found 119 ms (recursion_from_All (λ (m : Member). IsCompact 119 m.value) ms is))
+pub members-found : (ms : List Member) → All (λ (m : Member). IsCompact 119 m.value) ms
+    → AllFound (λ name value. IsCompact 119 value) (find_in (pairs ms))
+members-found ms is = found-has (λ name value. IsCompact 119 value) (pairs ms)
+    (values-found 119 ms (recursion_from_All (λ (m : Member). IsCompact 119 m.value) ms is))
 
-pub element-in : (value : List ℕ) (ms rs : List Pair) (e : ElementValue) → IsNoSelection value ms → IsCompact 120 value → AreRestored ms rs → Says (find_in rs) e → IsElementIn value e
+pub element-in : (value : List ℕ) (ms rs : List Pair) (e : ElementValue) → IsNoSelection value ms → IsCompact 120 value
+    → AreRestored ms rs → Says (find_in rs) e → IsElementIn value e
 element-in value ms rs e no_selection shallow restores says =
-    record { members = ms; restored = rs; no_selection = no_selection; shallow = shallow; restores = restores; says = says }
+    record {
+      members = ms;
+      restored = rs;
+      no_selection = no_selection;
+      shallow = shallow;
+      restores = restores;
+      says =
+          says;
+    }
 
-pub fault-in : (value : List ℕ) (ms rs : List Pair) (fault : ElemFault) → IsNoSelection value ms → IsCompact 120 value → AreRestored ms rs → IsFirst (find_in rs) fault → IsFaultIn value fault
+pub fault-in : (value : List ℕ) (ms rs : List Pair) (fault : ElemFault) → IsNoSelection value ms → IsCompact 120 value
+    → AreRestored ms rs → IsFirst (find_in rs) fault → IsFaultIn value fault
 fault-in value ms rs fault no_selection shallow restores first =
-    in-members fault (record { members = ms; restored = rs; no_selection = no_selection; shallow = shallow; restores = restores; first = first })
+    in-members fault (record {
+      members = ms;
+      restored = rs;
+      no_selection = no_selection;
+      shallow = shallow;
+      restores =
+          restores;
+      first = first;
+    })
   where
     in-members : (f : ElemFault) → HasFault value f → IsFaultIn value f
     in-members NotObject h = absurd h.first.comes

@@ -25,15 +25,18 @@ abbrev pub kept : (List ℕ → Bool) → List Member → List Member
 kept test ms = filter (λ (m : Member). not (test m.name)) ms
 
 -- ---- order
-below-more : (name : List ℕ) (ms : List Pair) → IsBelow name ms → AllByRecursion (λ (n : Pair). bytes_less name n.0 ≡ true) ms
+below-more : (name : List ℕ) (ms : List Pair) → IsBelow name ms
+    → AllByRecursion (λ (n : Pair). bytes_less name n.0 ≡ true) ms
 below-more name [] h = tt
 below-more name (m ∷ ms) h = (ap is_lt h.0, below-more name ms h.1)
 
 pub IsRising-names : (ms : List Pair) → HaveRisingNames ms → IsRising ms
 IsRising-names [] rise = tt
-IsRising-names (m ∷ ms) rise = let parts = rising_parts m ms rise in (below-more m.0 ms parts.0, IsRising-names ms parts.1)
+IsRising-names (m ∷ ms) rise =
+    let parts = rising_parts m ms rise in (below-more m.0 ms parts.0, IsRising-names ms parts.1)
 
-kept-all : (P : Pair → Type 0) (test : List ℕ → Bool) (ms : List Member) → AllByRecursion P (pairs ms) → AllByRecursion P (pairs (kept test ms))
+kept-all : (P : Pair → Type 0) (test : List ℕ → Bool) (ms : List Member) → AllByRecursion P (pairs ms)
+    → AllByRecursion P (pairs (kept test ms))
 kept-all P test [] h = tt
 kept-all P test (m ∷ ms) h =
     elim (test m.name) as (λ b. AllByRecursion P (pairs (cond (not b) (m ∷ kept test ms) (kept test ms)))) [
@@ -53,77 +56,106 @@ kept-rising test (m ∷ ms) rise =
 pub kept-free : (test : List ℕ → Bool) (ms : List Member) → list_any test (names (kept test ms)) ≡ false
 kept-free test [] = refl
 kept-free test (m ∷ ms) =
-    elim (test m.name) as (λ b. test m.name ≡ b → list_any test (names (cond (not b) (m ∷ kept test ms) (kept test ms))) ≡ false) [
+    elim (test m.name) as (λ b. test m.name ≡ b
+    → list_any test (names (cond (not b) (m ∷ kept test ms) (kept test ms)))
+    ≡ false) [
       | true ↦ λ e. kept-free test ms
       | false ↦ λ e. or_from _ _ e (kept-free test ms)
     ] refl
 
-head-or : (name : List ℕ) (m : Pair) (ms ns : List Pair) → value_at name ms ≡ value_at name ns → value_at name (m ∷ ms) ≡ value_at name (m ∷ ns)
+head-or : (name : List ℕ) (m : Pair) (ms ns : List Pair) → value_at name ms ≡ value_at name ns
+    → value_at name (m ∷ ms) ≡ value_at name (m ∷ ns)
 head-or name m ms ns e = ap (λ rest. cond (bytes_eq name m.0) (Some m.1) rest) e
 
-pub kept-same : (test : List ℕ → Bool) (ms : List Member) (name : List ℕ) → test name ≡ false → value_at name (pairs (kept test ms)) ≡ value_at name (pairs ms)
+pub kept-same : (test : List ℕ → Bool) (ms : List Member) (name : List ℕ) → test name ≡ false
+    → value_at name (pairs (kept test ms)) ≡ value_at name (pairs ms)
 kept-same test [] name other = refl
 kept-same test (m ∷ ms) name other =
-    elim (test m.name) as (λ b. test m.name ≡ b → value_at name (pairs (cond (not b) (m ∷ kept test ms) (kept test ms))) ≡ value_at name (pairs (m ∷ ms))) [
+    elim (test m.name) as (λ b. test m.name ≡ b
+    → value_at name (pairs (cond (not b) (m ∷ kept test ms) (kept test ms)))
+    ≡ value_at name (pairs (m ∷ ms))) [
       | true ↦ λ e.
-          let apart : bytes_eq name m.name ≡ false = bytes_eq-apart name m.name (λ same. both_ways (test name) other (ap test same ∙ e)) in
+          let apart : bytes_eq name m.name ≡ false =
+          bytes_eq-apart name m.name (λ same. both_ways (test name) other (ap test same ∙ e)) in
           kept-same test ms name other ∙ sym (lookup_tail (bytes_eq name) (m.name, m.value) (pairs ms) apart)
       | false ↦ λ e. head-or name (m.name, m.value) (pairs (kept test ms)) (pairs ms) (kept-same test ms name other)
     ] refl
 
 -- where the second test has nothing to find, the first one alone tells
-pub kept-alone : (test : List ℕ → Bool) (ms : List Member) → kept test ms ≡ kept (λ name. test name || list_any (bytes_eq name) []) ms
+pub kept-alone : (test : List ℕ → Bool) (ms : List Member)
+    → kept test ms ≡ kept (λ name. test name || list_any (bytes_eq name) []) ms
 kept-alone test [] = refl
 kept-alone test (m ∷ ms) =
     let alone : List Member = kept (λ name. test name || list_any (bytes_eq name) []) ms in
-    elim (test m.name) as (λ b. cond (not b) (m ∷ kept test ms) (kept test ms) ≡ cond (not (b || false)) (m ∷ alone) alone) [
+    elim (test m.name) as (λ b. cond (not b) (m ∷ kept test ms) (kept test ms)
+    ≡ cond (not (b || false)) (m ∷ alone) alone) [
       | true ↦ kept-alone test ms
       | false ↦ ap (λ others. m ∷ others) (kept-alone test ms)
     ]
 
-pub kept-others : (test : List ℕ → Bool) (ms : List Member) → HaveRisingNames (pairs ms) → AreOthers test (find_in (pairs ms)) (kept test ms)
+pub kept-others : (test : List ℕ → Bool) (ms : List Member) → HaveRisingNames (pairs ms)
+    → AreOthers test (find_in (pairs ms)) (kept test ms)
 kept-others test ms rise = record {
-  rise = ap are_rising (sym (names-pairs (kept test ms))) ∙ are_rising-from (pairs (kept test ms)) (kept-rising test ms (IsRising-names (pairs ms) rise));
+  rise = ap are_rising (sym (names-pairs (kept test ms)))
+      ∙ are_rising-from (pairs (kept test ms)) (kept-rising test ms (IsRising-names (pairs ms) rise));
   free = kept-free test ms;
   same = kept-same test ms;
 }
 
 -- ---- sorted
-names-all : (P : List ℕ → Type 0) (ms : List Pair) → AllByRecursion P (names_of ms) → AllByRecursion (λ (m : Pair). P m.0) ms
+names-all : (P : List ℕ → Type 0) (ms : List Pair) → AllByRecursion P (names_of ms)
+    → AllByRecursion (λ (m : Pair). P m.0) ms
 names-all P [] h = tt
 names-all P (m ∷ ms) h = (h.0, names-all P ms h.1)
 
-all-names : (P : List ℕ → Type 0) (ms : List Pair) → AllByRecursion (λ (m : Pair). P m.0) ms → AllByRecursion P (names_of ms)
+all-names : (P : List ℕ → Type 0) (ms : List Pair) → AllByRecursion (λ (m : Pair). P m.0) ms
+    → AllByRecursion P (names_of ms)
 all-names P [] h = tt
 all-names P (m ∷ ms) h = (h.0, all-names P ms h.1)
 
-kept-distinct : (test : List ℕ → Bool) (ms : List Member) → IsDistinct bytes_eq (names_of (pairs ms)) → IsDistinct bytes_eq (names_of (pairs (kept test ms)))
+kept-distinct : (test : List ℕ → Bool) (ms : List Member) → IsDistinct bytes_eq (names_of (pairs ms))
+    → IsDistinct bytes_eq (names_of (pairs (kept test ms)))
 unfolding IsDistinct
 kept-distinct test [] apart = tt
 kept-distinct test (m ∷ ms) apart =
     let P : List ℕ → Type 0 = λ y. bytes_eq m.name y ≡ false in
-    elim (test m.name) as (λ b. IsDistinct bytes_eq (names_of (pairs (cond (not b) (m ∷ kept test ms) (kept test ms))))) [
+    elim (test m.name) as (λ b. IsDistinct bytes_eq
+    (names_of (pairs (cond (not b) (m ∷ kept test ms) (kept test ms))))) [
       | true ↦ kept-distinct test ms apart.1
-      | false ↦ (all-names P (pairs (kept test ms)) (kept-all (λ n. P n.0) test ms (names-all P (pairs ms) apart.0)), kept-distinct test ms apart.1)
+      | false ↦ (
+        all-names P (pairs (kept test ms)) (kept-all (λ n. P n.0) test ms (names-all P (pairs ms) apart.0)),
+        kept-distinct test ms apart.1,
+      )
     ]
 
-free-all : (test : List ℕ → Bool) (ms : List Member) → list_any test (names ms) ≡ false → AllByRecursion (λ (m : Member). test m.name ≡ false) ms
+free-all : (test : List ℕ → Bool) (ms : List Member) → list_any test (names ms) ≡ false
+    → AllByRecursion (λ (m : Member). test m.name ≡ false) ms
 free-all test [] h = tt
-free-all test (m ∷ ms) h = let parts = or_parts (test m.name) (list_any test (names ms)) h in (parts.0, free-all test ms parts.1)
+free-all test (m ∷ ms) h =
+    let parts = or_parts (test m.name) (list_any test (names ms)) h in (parts.0, free-all test ms parts.1)
 
-all-free : (test : List ℕ → Bool) (ms : List Member) → AllByRecursion (λ (m : Member). test m.name ≡ false) ms → list_any test (names ms) ≡ false
+all-free : (test : List ℕ → Bool) (ms : List Member) → AllByRecursion (λ (m : Member). test m.name ≡ false) ms
+    → list_any test (names ms) ≡ false
 all-free test [] h = refl
 all-free test (m ∷ ms) h = or_from (test m.name) (list_any test (names ms)) h.0 (all-free test ms h.1)
 
-pub sorted-others : (test : List ℕ → Bool) (ms ws : List Member) → IsDistinct bytes_eq (map (λ (m : Member). m.name) ms) → IsPermutation (kept test ms) ws
-    → IsSortedBy (λ (a : Member) (b : Member). is_lt (slice_cmp nat_cmp a.name b.name)) ws → AreOthers test (find_in (pairs ms)) ws
+pub sorted-others : (test : List ℕ → Bool) (ms ws : List Member)
+    → IsDistinct bytes_eq (map (λ (m : Member). m.name) ms)
+    → IsPermutation (kept test ms) ws
+    → IsSortedBy (λ (a : Member) (b : Member). is_lt (slice_cmp nat_cmp a.name b.name)) ws
+    → AreOthers test (find_in (pairs ms)) ws
 sorted-others test ms ws apart moved up =
     let P : Member → Type 0 = λ m. test m.name ≡ false in
     let paired = IsPermutation-map pair_of (kept test ms) ws moved in
     let distinct = kept-distinct test ms (subst (IsDistinct bytes_eq) (sym (names-pairs ms)) apart) in
-    let still = subst (IsDistinct bytes_eq) (names-pairs ws) (distinct_moved (pairs (kept test ms)) (pairs ws) paired distinct) in
+    let still = subst (IsDistinct bytes_eq) (names-pairs ws)
+    (distinct_moved (pairs (kept test ms)) (pairs ws) paired distinct) in
     let rise = rising_from_sort ws up still in record {
       rise = ap are_rising (sym (names-pairs ws)) ∙ are_rising-from (pairs ws) (IsRising-names (pairs ws) rise);
-      free = all-free test ws (recursion_from_All P ws (All-permutation P (kept test ms) ws moved (All-from_recursion P (kept test ms) (free-all test (kept test ms) (kept-free test ms)))));
-      same = λ name other. sym (same_moved (pairs (kept test ms)) (pairs ws) distinct paired name) ∙ kept-same test ms name other;
+      free =
+          all-free test ws (recursion_from_All P ws
+          (All-permutation P (kept test ms) ws moved
+          (All-from_recursion P (kept test ms) (free-all test (kept test ms) (kept-free test ms)))));
+      same = λ name other. sym (same_moved (pairs (kept test ms)) (pairs ws) distinct paired name)
+          ∙ kept-same test ms name other;
     }

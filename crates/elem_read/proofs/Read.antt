@@ -32,13 +32,20 @@ use Rattle.elem_read.proofs.Whole.{restored-nest}
 -- ---- restored members
 old-ids : (ms : List Pair) → AreMembers 127 ms → (ids : Option (List (List ℕ))) × IsTheOne (HasOldListing ms) ids
 old-ids ms are = elim (texts-or-not (value_at old_name ms) (fits-in 127 ms (lit≤ tt) are old_name)) [
-  | inl (ids, is) ↦ (Some ids, (record { texts = is.0; named = is.1 }, λ other one. texts-once (value_at old_name ms) other ids (one.texts, one.named) is))
+  | inl (ids, is) ↦ (
+    Some ids,
+    (
+      record { texts = is.0; named = is.1 },
+      λ other one. texts-once (value_at old_name ms) other ids (one.texts, one.named) is,
+    ),
+  )
   | inr none ↦ (None, λ ids one. none ids (one.texts, one.named))
 ]
 
 -- what the restored members have at a name
 restored_at : Option (List (List ℕ)) → List Pair → List ℕ → Option (List ℕ)
-restored_at ids ms name = if bytes_eq name old_name then None else (if bytes_eq name listing_name then listing_at ids ms else filled_at name ms)
+restored_at ids ms name = if bytes_eq name old_name then None
+    else (if bytes_eq name listing_name then listing_at ids ms else filled_at name ms)
 
 at-old : (ids : Option (List (List ℕ))) (ms : List Pair) → restored_at ids ms old_name ≡ None
 unfolding restored_at
@@ -48,23 +55,30 @@ at-listing : (ids : Option (List (List ℕ))) (ms : List Pair) → restored_at i
 unfolding restored_at
 at-listing ids ms = refl
 
-at-other : (ids : Option (List (List ℕ))) (ms : List Pair) (name : List ℕ) → bytes_eq name old_name ≡ false → bytes_eq name listing_name ≡ false → restored_at ids ms name ≡ filled_at name ms
+at-other : (ids : Option (List (List ℕ))) (ms : List Pair) (name : List ℕ) → bytes_eq name old_name ≡ false
+    → bytes_eq name listing_name ≡ false → restored_at ids ms name ≡ filled_at name ms
 unfolding restored_at
 at-other ids ms name not_old not_listing = rw (not_old, not_listing) refl
 
-at-none : (ids : Option (List (List ℕ))) (ms : List Pair) (name : List ℕ) → list_any (bytes_eq name) (listing_name ∷ (names_of defaults ++ names_of ms)) ≡ false → restored_at ids ms name ≡ None
+at-none : (ids : Option (List (List ℕ))) (ms : List Pair) (name : List ℕ)
+    → list_any (bytes_eq name) (listing_name ∷ (names_of defaults ++ names_of ms)) ≡ false
+    → restored_at ids ms name ≡ None
 at-none ids ms name none = elim (cases_Bool (bytes_eq name old_name)) [
   | inl old ↦ ap (restored_at ids ms) (bytes_eq-true name old_name old) ∙ at-old ids ms
   | inr not_old ↦
-      let first = or_parts (bytes_eq name listing_name) (list_any (bytes_eq name) (names_of defaults ++ names_of ms)) none in
-      let rest = or_parts (list_any (bytes_eq name) (names_of defaults)) (list_any (bytes_eq name) (names_of ms)) (sym (list_any-append (bytes_eq name) (names_of defaults) (names_of ms)) ∙ first.1) in
-      at-other ids ms name not_old first.0 ∙ (ap (λ d. filled d (value_at name ms)) (not-named name defaults rest.0) ∙ not-named name ms rest.1)
+      let first =
+      or_parts (bytes_eq name listing_name) (list_any (bytes_eq name) (names_of defaults ++ names_of ms)) none in
+      let rest = or_parts (list_any (bytes_eq name) (names_of defaults)) (list_any (bytes_eq name) (names_of ms))
+      (sym (list_any-append (bytes_eq name) (names_of defaults) (names_of ms)) ∙ first.1) in
+      at-other ids ms name not_old first.0 ∙ (ap (λ d. filled d (value_at name ms)) (not-named name defaults rest.0)
+      ∙ not-named name ms rest.1)
 ]
 
 pub restored-exist : (ms : List Pair) → AreMembers 127 ms → (rs : List Pair) × AreRestored ms rs
 restored-exist ms are =
     let (ids, old) = old-ids ms are in
-    let (rs, rise, at) = tabled (listing_name ∷ (names_of defaults ++ names_of ms)) (restored_at ids ms) (at-none ids ms) in (
+    let (rs, rise, at) =
+    tabled (listing_name ∷ (names_of defaults ++ names_of ms)) (restored_at ids ms) (at-none ids ms) in (
       rs,
       record {
         rise = rise;
@@ -72,7 +86,9 @@ restored-exist ms are =
         old = old;
         gone = at old_name ∙ at-old ids ms;
         listing = at listing_name ∙ at-listing ids ms;
-        others = λ name not_old not_listing. at name ∙ at-other ids ms name (bytes_eq-apart name old_name not_old) (bytes_eq-apart name listing_name not_listing);
+        others = λ name not_old not_listing. at name
+            ∙ at-other ids ms name (bytes_eq-apart name old_name not_old)
+            (bytes_eq-apart name listing_name not_listing);
       },
     )
 
@@ -82,44 +98,65 @@ module _ (find : Find) where
   Told = ((e : ElementValue) × Says find e) ⊎ ((fault : ElemFault) × IsFirst find fault)
 
   -- a part that is read, or is the first fault
-  part : {A : Type 0} (P : A → Type 0) (fault : ElemFault) → Passes (place_of fault) find → (Lacks P → Fails fault find) → Decided P → ((x : A) → P x → Told) → Told
+  part : {A : Type 0} (P : A → Type 0) (fault : ElemFault) → Passes (place_of fault) find → (Lacks P → Fails fault find)
+      → Decided P → ((x : A) → P x → Told) → Told
   part P fault before fails (inl (x, is)) more = more x is
   part P fault before fails (inr none) more = inr (fault, record { comes = fails none; first = before })
 
-  told : ((name : List ℕ) → Fits (find name)) → find (codes "type") ≢ Some selection_text → ((test : List ℕ → Bool) → (others : List Member) × AreOthers test find others) → Told
+  told : ((name : List ℕ) → Fits (find name)) → find (codes "type") ≢ Some selection_text
+      → ((test : List ℕ → Bool) → (others : List Member) × AreOthers test find others) → Told
   told fits other rest =
-      part (IsId (find (codes "id"))) Id (passes-members find) (λ h. h) (id-or-not (find (codes "id")) (fits (codes "id"))) (λ id is_id.
+      part (IsId (find (codes "id"))) Id (passes-members find) (λ h. h)
+      (id-or-not (find (codes "id")) (fits (codes "id"))) (λ id is_id.
       let third = after-id find id is_id in
-      part (IsText (find (codes "type"))) Kind third (λ h. h) (text-or-not (find (codes "type")) (fits (codes "type"))) (λ name is_name.
+      part (IsText (find (codes "type"))) Kind third (λ h. h) (text-or-not (find (codes "type")) (fits (codes "type")))
+      (λ name is_name.
       let (kind, named, known) = kind-of name (λ e. other (is_name.1 ∙ ap (λ t. Some (quote t)) e)) in
-      let is_kind : IsKindName (find (codes "type")) kind = (subst (IsText (find (codes "type"))) (sym named) is_name, known) in
+      let is_kind : IsKindName (find (codes "type")) kind =
+      (subst (IsText (find (codes "type"))) (sym named) is_name, known) in
       let fourth = after-kind find kind is_kind third in
-      part (IsWholeNumber (find (codes "version"))) Version fourth (λ h. h) (whole-or-not (find (codes "version"))) (λ version is_version.
+      part (IsWholeNumber (find (codes "version"))) Version fourth (λ h. h) (whole-or-not (find (codes "version")))
+      (λ version is_version.
       let fifth = after-version find version is_version fourth in
-      part (IsWholeNumber (find (codes "versionNonce"))) Nonce fifth (λ h. h) (whole-or-not (find (codes "versionNonce"))) (λ nonce is_nonce.
+      part (IsWholeNumber (find (codes "versionNonce"))) Nonce fifth (λ h. h)
+      (whole-or-not (find (codes "versionNonce"))) (λ nonce is_nonce.
       let sixth = after-nonce find nonce is_nonce fifth in
-      part (IsWholeNumber (find (codes "updated"))) Updated sixth (λ h. h) (whole-or-not (find (codes "updated"))) (λ updated is_updated.
+      part (IsWholeNumber (find (codes "updated"))) Updated sixth (λ h. h) (whole-or-not (find (codes "updated")))
+      (λ updated is_updated.
       let seventh = after-updated find updated is_updated sixth in
-      part (IsKeyOrNull (find (codes "index"))) Index seventh (λ h. h) (key_or_null-or-not (find (codes "index")) (fits (codes "index"))) (λ index is_index.
+      part (IsKeyOrNull (find (codes "index"))) Index seventh (λ h. h)
+      (key_or_null-or-not (find (codes "index")) (fits (codes "index"))) (λ index is_index.
       let eighth = after-index find index is_index seventh in
-      part (IsTruth (find (codes "isDeleted"))) Deleted eighth (λ h. h) (truth-or-not (find (codes "isDeleted"))) (λ deleted is_deleted.
+      part (IsTruth (find (codes "isDeleted"))) Deleted eighth (λ h. h) (truth-or-not (find (codes "isDeleted")))
+      (λ deleted is_deleted.
       let ninth = after-deleted find deleted is_deleted eighth in
-      part (AreTexts (find (codes "groupIds"))) Groups ninth (λ h. h) (texts-or-not (find (codes "groupIds")) (fits (codes "groupIds"))) (λ groups are_groups.
+      part (AreTexts (find (codes "groupIds"))) Groups ninth (λ h. h)
+      (texts-or-not (find (codes "groupIds")) (fits (codes "groupIds"))) (λ groups are_groups.
       let tenth = after-groups find groups are_groups ninth in
-      part (IsTextOrNull (find (codes "frameId"))) Frame tenth (λ h. h) (text_or_null-or-not (find (codes "frameId")) (fits (codes "frameId"))) (λ frame is_frame.
+      part (IsTextOrNull (find (codes "frameId"))) Frame tenth (λ h. h)
+      (text_or_null-or-not (find (codes "frameId")) (fits (codes "frameId"))) (λ frame is_frame.
       let eleventh = after-frame find frame is_frame tenth in
-      part (IsListing (find (codes "boundElements"))) Bound eleventh (λ h. h) (listing-or-not (find (codes "boundElements")) (fits (codes "boundElements"))) (λ bound is_bound.
+      part (IsListing (find (codes "boundElements"))) Bound eleventh (λ h. h)
+      (listing-or-not (find (codes "boundElements")) (fits (codes "boundElements"))) (λ bound is_bound.
       let twelfth = after-bound find bound is_bound eleventh in
-      part (IsOwn (is_named (codes "text") kind) IsTextOrNull (find (codes "containerId"))) Container twelfth (own-fails find (codes "text") (codes "containerId") IsTextOrNull kind is_kind)
-      (own-or-not (is_named (codes "text") kind) IsTextOrNull (find (codes "containerId")) (text_or_null-or-not (find (codes "containerId")) (fits (codes "containerId")))) (λ container is_container.
+      part (IsOwn (is_named (codes "text") kind) IsTextOrNull (find (codes "containerId"))) Container twelfth
+      (own-fails find (codes "text") (codes "containerId") IsTextOrNull kind is_kind)
+      (own-or-not (is_named (codes "text") kind) IsTextOrNull (find (codes "containerId"))
+      (text_or_null-or-not (find (codes "containerId")) (fits (codes "containerId")))) (λ container is_container.
       let thirteenth = after-container find kind container is_kind is_container twelfth in
-      part (IsOwn (is_named (codes "arrow") kind) IsBindingOrNull (find (codes "startBinding"))) Binding thirteenth (λ lacks. inl (own-fails find (codes "arrow") (codes "startBinding") IsBindingOrNull kind is_kind lacks))
-      (own-or-not (is_named (codes "arrow") kind) IsBindingOrNull (find (codes "startBinding")) (binding-or-not (find (codes "startBinding")) (fits (codes "startBinding")))) (λ start is_start.
-      part (IsOwn (is_named (codes "arrow") kind) IsBindingOrNull (find (codes "endBinding"))) Binding thirteenth (λ lacks. inr (own-fails find (codes "arrow") (codes "endBinding") IsBindingOrNull kind is_kind lacks))
-      (own-or-not (is_named (codes "arrow") kind) IsBindingOrNull (find (codes "endBinding")) (binding-or-not (find (codes "endBinding")) (fits (codes "endBinding")))) (λ end is_end.
+      part (IsOwn (is_named (codes "arrow") kind) IsBindingOrNull (find (codes "startBinding"))) Binding thirteenth
+      (λ lacks. inl (own-fails find (codes "arrow") (codes "startBinding") IsBindingOrNull kind is_kind lacks))
+      (own-or-not (is_named (codes "arrow") kind) IsBindingOrNull (find (codes "startBinding"))
+      (binding-or-not (find (codes "startBinding")) (fits (codes "startBinding")))) (λ start is_start.
+      part (IsOwn (is_named (codes "arrow") kind) IsBindingOrNull (find (codes "endBinding"))) Binding thirteenth
+      (λ lacks. inr (own-fails find (codes "arrow") (codes "endBinding") IsBindingOrNull kind is_kind lacks))
+      (own-or-not (is_named (codes "arrow") kind) IsBindingOrNull (find (codes "endBinding"))
+      (binding-or-not (find (codes "endBinding")) (fits (codes "endBinding")))) (λ end is_end.
       let fourteenth = after-bindings find kind start end is_kind is_start is_end thirteenth in
-      part (IsOwn (is_named (codes "image") kind) IsTextOrNull (find (codes "fileId"))) File fourteenth (own-fails find (codes "image") (codes "fileId") IsTextOrNull kind is_kind)
-      (own-or-not (is_named (codes "image") kind) IsTextOrNull (find (codes "fileId")) (text_or_null-or-not (find (codes "fileId")) (fits (codes "fileId")))) (λ file is_file.
+      part (IsOwn (is_named (codes "image") kind) IsTextOrNull (find (codes "fileId"))) File fourteenth
+      (own-fails find (codes "image") (codes "fileId") IsTextOrNull kind is_kind)
+      (own-or-not (is_named (codes "image") kind) IsTextOrNull (find (codes "fileId"))
+      (text_or_null-or-not (find (codes "fileId")) (fits (codes "fileId")))) (λ file is_file.
       let others = rest (is_header kind) in
       inl (
         record {
@@ -163,20 +200,34 @@ same-or-not : (found : Option (List ℕ)) (text : List ℕ) → (found ≡ Some 
 same-or-not None text = inr (λ e. cc)
 same-or-not (Some v) text = elim (cases_Bool (bytes_eq v text)) [
   | inl e ↦ inl (ap Some (bytes_eq-true v text e))
-  | inr e ↦ inr (λ same. let is : v ≡ text = cc in both_ways (bytes_eq v text) e (ap (λ x. bytes_eq x text) is ∙ bytes_eq-same text))
+  | inr e ↦ inr (λ same. let is : v ≡ text = cc in both_ways (bytes_eq v text) e (ap (λ x. bytes_eq x text) is
+      ∙ bytes_eq-same text))
 ]
 
 -- What a compact value is read as.
 abbrev pub IsRead : List ℕ → Type 0
-IsRead value = IsSelection value ⊎ (((e : ElementValue) × IsElementIn value e) ⊎ ((fault : ElemFault) × IsFaultIn value fault))
+IsRead value =
+    IsSelection value ⊎ (((e : ElementValue) × IsElementIn value e) ⊎ ((fault : ElemFault) × IsFaultIn value fault))
 
 shallow-read : (value : List ℕ) (ms : List Pair) → IsNoSelection value ms → IsCompact 120 value → IsRead value
 shallow-read value ms no_selection shallow =
     let inner : AreMembers 119 ms = object-nests 120 value ms (lit≤ tt) (lit≤ tt) shallow no_selection.object in
     let (rs, restores) = restored-exist ms no_selection.object.are_members in
-    let fits : (name : List ℕ) → Fits (find_in rs name) = λ name. fits-found (find_in rs name) (λ v e. restored-nest ms rs inner restores name v e) in
+    let fits : (name : List ℕ) → Fits (find_in rs name) =
+    λ name. fits-found (find_in rs name) (λ v e. restored-nest ms rs inner restores name v e) in
     elim (told (find_in rs) fits (kind-stays ms rs restores no_selection.kind) (λ test. others-exist test rs)) [
-      | inl (e, says) ↦ inr (inl (e, record { members = ms; restored = rs; no_selection = no_selection; shallow = shallow; restores = restores; says = says }))
+      | inl (e, says) ↦ inr (inl (
+        e,
+        record {
+          members = ms;
+          restored = rs;
+          no_selection = no_selection;
+          shallow =
+              shallow;
+          restores = restores;
+          says = says;
+        },
+      ))
       | inr (fault, first) ↦ inr (inr (fault, fault-in value ms rs fault no_selection shallow restores first))
     ]
   where
@@ -186,7 +237,8 @@ shallow-read value ms no_selection shallow =
 pub read-exists : (value : List ℕ) → IsCompact 128 value → IsRead value
 read-exists value is = by (object-or-not value is)
   where
-    by : ((ms : List Pair) × AreMembers 127 ms × (value ≡ object_text ms)) ⊎ ((ms : List Pair) → value ≢ object_text ms) → IsRead value
+    by : ((ms : List Pair) × AreMembers 127 ms × (value ≡ object_text ms)) ⊎ ((ms : List Pair) → value ≢ object_text ms)
+        → IsRead value
     by (inr none) = inr (inr (NotObject, no-object value none))
     by (inl (ms, are, e)) =
         let object : IsObject value ms = record { are_members = are; spelled = e } in

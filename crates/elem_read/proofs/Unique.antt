@@ -20,13 +20,15 @@ use Rattle.elem_read.proofs.Firsts.{first-once, faultless}
 use Rattle.elem_read.proofs.Keeping.{found-has, found-self, object-nests}
 
 -- ---- one way alone
-restored-once : (value : List ℕ) (ms ns rs ss : List Pair) → IsObject value ms → IsObject value ns → AreRestored ms rs → AreRestored ns ss → rs ≡ ss
+restored-once : (value : List ℕ) (ms ns rs ss : List Pair) → IsObject value ms → IsObject value ns → AreRestored ms rs
+    → AreRestored ns ss → rs ≡ ss
 restored-once value ms ns rs ss one two left right =
     restored-unique ms rs ss left (subst (λ os. AreRestored os ss) (sym (members-once value ms ns one two)) right)
 
 pub element-once : (value : List ℕ) (e other : ElementValue) → IsElementIn value e → IsElementIn value other → e ≡ other
 element-once value e other one two =
-    let same = restored-once value one.members two.members one.restored two.restored one.no_selection.object two.no_selection.object one.restores two.restores in
+    let same = restored-once value one.members two.members one.restored two.restored one.no_selection.object
+    two.no_selection.object one.restores two.restores in
     Says-once (find_in one.restored) e other one.says (subst (λ rs. Says (find_in rs) other) (sym same) two.says)
 
 -- a fault is that there is no object, that it is too deep, or one of its members
@@ -62,7 +64,8 @@ faults-once value a b (deep e one) (has two) = absurd (one.deep two.shallow)
 faults-once value a b (has one) (none f two) = absurd (two one.members one.no_selection.object)
 faults-once value a b (has one) (deep f two) = absurd (two.deep one.shallow)
 faults-once value a b (has one) (has two) =
-    let same = restored-once value one.members two.members one.restored two.restored one.no_selection.object two.no_selection.object one.restores two.restores in
+    let same = restored-once value one.members two.members one.restored two.restored one.no_selection.object
+    two.no_selection.object one.restores two.restores in
     first-once (find_in one.restored) a b one.first (subst (λ rs. IsFirst (find_in rs) b) (sym same) two.first)
 
 pub fault-once : (value : List ℕ) (a b : ElemFault) → IsFaultIn value a → IsFaultIn value b → a ≡ b
@@ -72,15 +75,19 @@ without-fault : (value : List ℕ) (e : ElementValue) (fault : ElemFault) → Is
 without-fault value e fault is (none f lacks) = lacks is.members is.no_selection.object
 without-fault value e fault is (deep f two) = two.deep is.shallow
 without-fault value e fault is (has two) =
-    let same = restored-once value is.members two.members is.restored two.restored is.no_selection.object two.no_selection.object is.restores two.restores in
-    faultless (find_in is.restored) e is.says fault (subst (λ rs. IsFirst (find_in rs) fault) (sym same) two.first).comes
+    let same = restored-once value is.members two.members is.restored two.restored is.no_selection.object
+    two.no_selection.object is.restores two.restores in
+    faultless (find_in is.restored) e is.says fault
+    (subst (λ rs. IsFirst (find_in rs) fault) (sym same) two.first).comes
 
-pub element-faultless : (value : List ℕ) (e : ElementValue) (fault : ElemFault) → IsElementIn value e → IsFaultIn value fault → ⊥
+pub element-faultless : (value : List ℕ) (e : ElementValue) (fault : ElemFault) → IsElementIn value e
+    → IsFaultIn value fault → ⊥
 element-faultless value e fault is two = without-fault value e fault is (faulty value fault two)
 
 no_selection-kept : (value : List ℕ) (ms : List Pair) → IsNoSelection value ms → IsSelection value → ⊥
 no_selection-kept value ms is selection =
-    is.kind (ap (value_at (codes "type")) (members-once value ms selection.members is.object selection.object) ∙ selection.kind)
+    is.kind (ap (value_at (codes "type")) (members-once value ms selection.members is.object selection.object)
+    ∙ selection.kind)
 
 pub element-kept : (value : List ℕ) (e : ElementValue) → IsElementIn value e → IsSelection value → ⊥
 element-kept value e is = no_selection-kept value is.members is.no_selection
@@ -94,13 +101,15 @@ pub fault-dropped : (value : List ℕ) (fault : ElemFault) → IsFaultIn value f
 fault-dropped value fault is = dropped value fault (faulty value fault is)
 
 -- ---- in whatever order
-valued-moved : (P : List ℕ → Type 0) (ms os ns : List Pair) → AllByRecursion (λ (m : Pair). P m.1) ms → AreSameMembers ms os
+valued-moved : (P : List ℕ → Type 0) (ms os ns : List Pair) → AllByRecursion (λ (m : Pair). P m.1) ms
+    → AreSameMembers ms os
     → AllByRecursion (λ (n : Pair). value_at n.0 os ≡ Some n.1) ns → AllByRecursion (λ (n : Pair). P n.1) ns
 valued-moved P ms os [] all same found = tt
 valued-moved P ms os (n ∷ ns) all same found =
     (found-has (λ name value. P value) ms all n.0 n.1 (same n.0 ∙ found.0), valued-moved P ms os ns all same found.1)
 
-shallow-moved : (value other : List ℕ) (ms os : List Pair) → IsObject value ms → IsObject other os → AreSameMembers ms os → IsCompact 120 value → IsCompact 120 other
+shallow-moved : (value other : List ℕ) (ms os : List Pair) → IsObject value ms → IsObject other os
+    → AreSameMembers ms os → IsCompact 120 value → IsCompact 120 other
 shallow-moved value other ms os one two same shallow =
     let are = object-nests 120 value ms (lit≤ tt) (lit≤ tt) shallow one in
     let moved : AreMembers 119 os = record {
@@ -110,10 +119,13 @@ shallow-moved value other ms os one two same shallow =
     } in
     subst (IsCompact 120) (sym two.spelled) (object-compact 119 os moved)
 
-no_selection-moved : (value other : List ℕ) (ms os : List Pair) → IsObject other os → AreSameMembers ms os → IsNoSelection value ms → IsNoSelection other os
-no_selection-moved value other ms os two same is = record { object = two; kind = λ selection. is.kind (same (codes "type") ∙ selection) }
+no_selection-moved : (value other : List ℕ) (ms os : List Pair) → IsObject other os → AreSameMembers ms os
+    → IsNoSelection value ms → IsNoSelection other os
+no_selection-moved value other ms os two same is =
+    record { object = two; kind = λ selection. is.kind (same (codes "type") ∙ selection) }
 
-pub element-moved : (value other : List ℕ) (ms os : List Pair) (e : ElementValue) → IsObject value ms → IsObject other os → AreSameMembers ms os → IsElementIn value e → IsElementIn other e
+pub element-moved : (value other : List ℕ) (ms os : List Pair) (e : ElementValue) → IsObject value ms
+    → IsObject other os → AreSameMembers ms os → IsElementIn value e → IsElementIn other e
 element-moved value other ms os e one two same is =
     let own = members-once value is.members ms is.no_selection.object one in record {
       members = os;
@@ -124,23 +136,28 @@ element-moved value other ms os e one two same is =
       says = is.says;
     }
 
-pub fault-moved : (value other : List ℕ) (ms os : List Pair) (fault : ElemFault) → IsObject value ms → IsObject other os → AreSameMembers ms os → IsFaultIn value fault → IsFaultIn other fault
+pub fault-moved : (value other : List ℕ) (ms os : List Pair) (fault : ElemFault) → IsObject value ms → IsObject other os
+    → AreSameMembers ms os → IsFaultIn value fault → IsFaultIn other fault
 fault-moved value other ms os fault one two same is = back fault (moved fault (faulty value fault is))
   where
     moved : (f : ElemFault) → Faulty value f → Faulty other f
     moved f (none e lacks) = absurd (lacks ms one)
     moved f (deep e bad) = deep e (record {
       members = os;
-      no_selection = no_selection-moved value other ms os two same (subst (IsNoSelection value) (members-once value bad.members ms bad.no_selection.object one) bad.no_selection);
+      no_selection = no_selection-moved value other ms os two same
+          (subst (IsNoSelection value) (members-once value bad.members ms bad.no_selection.object one)
+          bad.no_selection);
       deep = λ shallow. bad.deep (shallow-moved other value os ms two one (λ name. sym (same name)) shallow);
     })
     moved f (has bad) =
         let own = members-once value bad.members ms bad.no_selection.object one in has (record {
           members = os;
           restored = bad.restored;
-          no_selection = no_selection-moved value other ms os two same (subst (IsNoSelection value) own bad.no_selection);
+          no_selection =
+              no_selection-moved value other ms os two same (subst (IsNoSelection value) own bad.no_selection);
           shallow = shallow-moved value other ms os one two same bad.shallow;
-          restores = restored-order ms os bad.restored same (subst (λ ns. AreRestored ns bad.restored) own bad.restores);
+          restores =
+              restored-order ms os bad.restored same (subst (λ ns. AreRestored ns bad.restored) own bad.restores);
           first = bad.first;
         })
 
@@ -166,9 +183,11 @@ fault-moved value other ms os fault one two same is = back fault (moved fault (f
     back f (deep e bad) = subst (IsFaultIn other) (sym e) bad
     back f (has bad) = in-members f bad
 
-pub selection-moved : (value other : List ℕ) (ms os : List Pair) → IsObject value ms → IsObject other os → AreSameMembers ms os → IsSelection value → IsSelection other
+pub selection-moved : (value other : List ℕ) (ms os : List Pair) → IsObject value ms → IsObject other os
+    → AreSameMembers ms os → IsSelection value → IsSelection other
 selection-moved value other ms os one two same is = record {
   members = os;
   object = two;
-  kind = sym (same (codes "type")) ∙ (ap (value_at (codes "type")) (sym (members-once value is.members ms is.object one)) ∙ is.kind);
+  kind = sym (same (codes "type"))
+      ∙ (ap (value_at (codes "type")) (sym (members-once value is.members ms is.object one)) ∙ is.kind);
 }

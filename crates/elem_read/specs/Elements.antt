@@ -9,7 +9,8 @@ abbrev pub AreRead : List (List ℕ) → List ElementValue → Type 0
 AreRead [] elements = elements ≡ []
 AreRead (value ∷ values) elements =
     (IsSelection value × AreRead values elements)
-    ⊎ ((e : ElementValue) × (others : List ElementValue) × (elements ≡ e ∷ others) × IsElementIn value e
+    ⊎ ((e : ElementValue) × (others : List ElementValue) × (elements ≡ e ∷ others)
+    × IsElementIn value e
     × AreRead values others)
 
 -- The value at this place, counted from 0, is the first with a fault; dropped ones count.
@@ -17,4 +18,5 @@ abbrev pub IsFirstFaulty : List (List ℕ) → ℕ → ElemFault → Type 0
 IsFirstFaulty [] place fault = ⊥
 IsFirstFaulty (value ∷ values) zero fault = IsFaultIn value fault
 IsFirstFaulty (value ∷ values) (suc place) fault =
-    (IsSelection value ⊎ ((e : ElementValue) × IsElementIn value e)) × IsFirstFaulty values place fault
+    (IsSelection value ⊎ ((e : ElementValue) × IsElementIn value e))
+    × IsFirstFaulty values place fault

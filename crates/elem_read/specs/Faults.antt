@@ -1,5 +1,5 @@
--- The faults of an element. The forms that are accepted, the order of the faults and their words are this project's
--- own.
+-- The faults of an element. The forms that are accepted, the order of the faults and their words
+-- are this project's own.
 use Rattle.std.specs.Prelude.{◌⊎◌, ℕ, ◌<◌, List, Option, codes}
 use Rattle.elem.specs.Forms.{Find, IsText, IsId, IsWholeNumber, IsTruth, IsTextOrNull, IsKeyOrNull, AreTexts, IsListing, IsBindingOrNull}
 use Rattle.elem_read.specs.declared.fault.ElemFault.{ElemFault}
@@ -10,11 +10,12 @@ abbrev pub Lacks : {A : Type 0} → (A → Type 0) → Type 0
 Lacks P = (x : _) → P x → ⊥
 
 -- An element of the kind of this name has a member that is not of the form.
-abbrev pub LacksOwn : {A : Type 0} → Find → List ℕ → (Option (List ℕ) → A → Type 0) → List ℕ → Type 0
+abbrev pub LacksOwn : {A : Type 0} → Find → List ℕ → (Option (List ℕ) → A → Type 0) → List ℕ
+    → Type 0
 LacksOwn find kind IsForm name = IsText (find (codes "type")) kind × Lacks (IsForm (find name))
 
--- Where each fault comes among the members of an element, the defaults filled in: a row a fault, with the member's name
--- and its form. The first two are no faults of a member.
+-- Where each fault comes among the members of an element, the defaults filled in: a row a fault,
+-- with the member's name and its form. The first two are no faults of a member.
 abbrev pub Fails : ElemFault → Find → Type 0
 Fails NotObject find = ⊥
 Fails Depth find = ⊥
@@ -30,7 +31,8 @@ Fails Frame find = Lacks (IsTextOrNull (find (codes "frameId")))
 Fails Bound find = Lacks (IsListing (find (codes "boundElements")))
 Fails Container find = LacksOwn find (codes "text") IsTextOrNull (codes "containerId")
 Fails Binding find =
-    LacksOwn find (codes "arrow") IsBindingOrNull (codes "startBinding") ⊎ LacksOwn find (codes "arrow") IsBindingOrNull (codes "endBinding")
+    LacksOwn find (codes "arrow") IsBindingOrNull (codes "startBinding")
+    ⊎ LacksOwn find (codes "arrow") IsBindingOrNull (codes "endBinding")
 Fails File find = LacksOwn find (codes "image") IsTextOrNull (codes "fileId")
 
 -- the order of the faults

@@ -1,5 +1,5 @@
--- What a value is read as: no element, an element, or a fault. Restoring is Excalidraw's; that a type of `selection` is
--- no element, the forms and the limit are this project's own.
+-- What a value is read as: no element, an element, or a fault. Restoring is Excalidraw's; that a
+-- type of `selection` is no element, the forms and the limit are this project's own.
 use Rattle.std.specs.Prelude.{◌≡◌, ◌≢◌, ℕ, List, Some, codes}
 use Rattle.json_text.specs.Characters.{quote}
 use Rattle.json_text.specs.Compact.{Member as Pair}
@@ -28,7 +28,8 @@ pub record IsNoSelection (value : List ℕ) (members : List Pair) : Type 0 where
   pub object : IsObject value members
   pub kind : value_at (codes "type") members ≢ Some selection_text
 
--- The value says this element: it nests at most 120, and its members, the defaults filled in, say the element.
+-- The value says this element: it nests at most 120, and its members, the defaults filled in, say
+-- the element.
 pub record IsElementIn (value : List ℕ) (e : ElementValue) : Type 0 where
   pub members : List Pair
   pub restored : List Pair
@@ -52,8 +53,8 @@ pub record HasFault (value : List ℕ) (fault : ElemFault) : Type 0 where
   pub restores : AreRestored members restored
   pub first : IsFirst (find_in restored) fault
 
--- The first fault of the value: that it is no object, and for an object but a selection that it nests too deep, and
--- then those of its members.
+-- The first fault of the value: that it is no object, and for an object but a selection that it
+-- nests too deep, and then those of its members.
 abbrev pub IsFaultIn : List ℕ → ElemFault → Type 0
 IsFaultIn value NotObject = (members : List Pair) → IsObject value members → ⊥
 IsFaultIn value Depth = IsTooDeepElement value

@@ -29,7 +29,8 @@ pub(crate) fn own_binding(
     own: bool,
     name: &str,
 ) -> Result<Option<Binding>, Stop<ElemFault>>
-    ensures { Reads (IsOwn own IsBindingOrNull (value_at name.now (pairs members.now))) faults.Binding result }
+    ensures { Reads (IsOwn own IsBindingOrNull (value_at name.now (pairs members.now)))
+        faults.Binding result }
 {
     if own {
         binding_or_null(alloc, members, name)

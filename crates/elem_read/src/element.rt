@@ -26,7 +26,8 @@ pub(crate) fn element_of(alloc: Global, members: List<Member>) -> Result<Element
     requires rise { HaveRisingNames (pairs members) }
     requires nest { All (λ member. IsCompact 119 member.value) members }
     ensures says { IfOk result (Says (find_in (pairs members))) }
-    ensures fault { (fault : ElemFault) → result ≡ Err (Stop.Fault fault) → IsFirst (find_in (pairs members)) fault }
+    ensures fault { (fault : ElemFault) → result ≡ Err (Stop.Fault fault)
+        → IsFirst (find_in (pairs members)) fault }
 {
     let id = id(alloc, &members)?;
     let kind = kind(alloc, &members)?;

@@ -96,8 +96,8 @@ pub(crate) fn is_image(kind: &Kind) -> bool
     matches!(kind, Kind::Image)
 }
 
-/// The members that are no header members of the kind, in their order. They are kept as long as the element, so no room
-/// is left beside them.
+/// The members that are no header members of the kind, in their order. They are kept as long as the
+/// element, so no room is left beside them.
 pub(crate) fn others(members: List<Member>, kind: &Kind) -> List<Member>
     ensures { result ≡ filter (λ member. not (facts.is_header kind.now member.name)) members }
 {
@@ -109,7 +109,8 @@ pub(crate) fn others(members: List<Member>, kind: &Kind) -> List<Member>
 
 /// Drops the header members of the kind. Most kinds have only those that all have.
 fn drop_headers(members: &mut Vec<Member>, kind: &Kind)
-    ensures { members.new.items ≡ filter (λ member. not (facts.is_header kind.now member.name)) members.old.items }
+    ensures { members.new.items ≡ filter (λ member. not (facts.is_header kind.now member.name))
+        members.old.items }
 {
     if has_own(kind) {
         members.retain(|member| !is_header(kind, member.name.as_bytes()));

@@ -20,10 +20,13 @@ pub fn reading_is_unique()
         → IsElementIn value other → e ≡ other }
     ensures fault { (value : List ℕ) (fault other : ElemFault)
         → IsFaultIn value fault → IsFaultIn value other → fault ≡ other }
-    ensures faultless { (value : List ℕ) (e : ElementValue) (fault : ElemFault) → IsElementIn value e
+    ensures faultless { (value : List ℕ) (e : ElementValue) (fault : ElemFault)
+        → IsElementIn value e
         → IsFaultIn value fault → ⊥ }
-    ensures kept { (value : List ℕ) (e : ElementValue) → IsElementIn value e → IsSelection value → ⊥ }
-    ensures dropped { (value : List ℕ) (fault : ElemFault) → IsFaultIn value fault → IsSelection value → ⊥ }
+    ensures kept { (value : List ℕ) (e : ElementValue) → IsElementIn value e → IsSelection value
+        → ⊥ }
+    ensures dropped { (value : List ℕ) (fault : ElemFault) → IsFaultIn value fault
+        → IsSelection value → ⊥ }
 {}
 
 /// The order of an object's members plays no part in what it is read as.
@@ -51,8 +54,10 @@ pub fn reading_elements_is_unique()
     ensures elements { (values : List (List ℕ)) (elements others : List ElementValue)
         → AreRead values elements → AreRead values others → elements ≡ others }
     ensures fault { (values : List (List ℕ)) (place other : ℕ) (fault why : ElemFault)
-        → IsFirstFaulty values place fault → IsFirstFaulty values other why → (place ≡ other) × (fault ≡ why) }
-    ensures faultless { (values : List (List ℕ)) (elements : List ElementValue) (place : ℕ) (fault : ElemFault)
+        → IsFirstFaulty values place fault → IsFirstFaulty values other why → (place ≡ other)
+        × (fault ≡ why) }
+    ensures faultless { (values : List (List ℕ)) (elements : List ElementValue) (place : ℕ)
+        (fault : ElemFault)
         → AreRead values elements → IsFirstFaulty values place fault → ⊥ }
 {}
 
@@ -77,6 +82,8 @@ pub fn texts_are_read()
 
 /// What a value is read as is an element, as its type keeps it; so are all whole elements.
 pub fn what_is_read_is_an_element()
-    ensures read { (value : List ℕ) (e : ElementValue) → IsElementIn value e → IsElement e × HasValidTexts e }
-    ensures whole { (elements : List ElementValue) → All IsWholeElement elements → AreElements elements }
+    ensures read { (value : List ℕ) (e : ElementValue) → IsElementIn value e → IsElement e
+        × HasValidTexts e }
+    ensures whole { (elements : List ElementValue) → All IsWholeElement elements
+        → AreElements elements }
 {}

@@ -24,7 +24,8 @@ pub(crate) fn listing(
     members: &List<Member>,
 ) -> Result<List<BoundRef>, Stop<ElemFault>>
     requires { HaveRisingNames (pairs members.now) }
-    ensures { Reads (IsListing (value_at (codes "boundElements") (pairs members.now))) faults.Bound result }
+    ensures { Reads (IsListing (value_at (codes "boundElements") (pairs members.now))) faults.Bound
+        result }
 {
     let Some(value) = value_near(members, "boundElements", 2) else {
         return Err(Stop::Fault(ElemFault::Bound));
@@ -59,7 +60,8 @@ fn push_entry(alloc: Global, entries: &mut Vec<BoundRef>, item: &Raw) -> Result<
 
 /// The entry that the item is, if it is one.
 fn entry(alloc: Global, item: &Raw) -> Result<Option<BoundRef>, AllocError>
-    ensures { IfOk result (λ found. MatchOption found (Lacks (IsListingEntry item.now)) (IsListingEntry item.now)) }
+    ensures { IfOk result (λ found. MatchOption found (Lacks (IsListingEntry item.now))
+        (IsListingEntry item.now)) }
 {
     let Some(members) = shaped(members(alloc, item))? else {
         return Ok(None);

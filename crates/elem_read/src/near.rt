@@ -13,8 +13,8 @@ use json_text::{Member, Raw, Text};
 use scene_json::{GREATEST_WHOLE, shaped, text_of, truth_of, value_named, whole_of};
 use std::alloc::{AllocError, Global};
 
-/// The value of the member of this name, if there is one. It is sought from the place on, and then from the front. It
-/// takes no memory.
+/// The value of the member of this name, if there is one. It is sought from the place on, and then
+/// from the front. It takes no memory.
 pub(crate) fn value_near<'a>(members: &'a List<Member>, name: &str, place: usize) -> Option<&'a Raw>
     requires { HaveRisingNames (pairs members.now) }
     ensures { option_copied result ≡ value_at name.now (pairs members.now) }
@@ -45,7 +45,8 @@ pub(crate) fn text_near(
 ) -> Result<Option<Text>, AllocError>
     requires { HaveRisingNames (pairs members.now) }
     ensures { IfOk result (IsTheOne
-        (λ (text : Items ℕ). IsUtf8 text × (value_at name.now (pairs members.now) ≡ Some (quote text)))) }
+        (λ (text : Items ℕ). IsUtf8 text
+        × (value_at name.now (pairs members.now) ≡ Some (quote text)))) }
 {
     let Some(value) = value_near(members, name, place) else {
         return Ok(None);
@@ -57,7 +58,8 @@ pub(crate) fn text_near(
 pub(crate) fn whole_near(members: &List<Member>, name: &str, place: usize) -> Option<u64>
     requires { HaveRisingNames (pairs members.now) }
     ensures { IsTheOne
-        (λ (n : ℕ). (n ≤ GREATEST_WHOLE) × (value_at name.now (pairs members.now) ≡ Some (decimal n))) result }
+        (λ (n : ℕ). (n ≤ GREATEST_WHOLE)
+        × (value_at name.now (pairs members.now) ≡ Some (decimal n))) result }
 {
     whole_of(value_near(members, name, place)?)
 }
@@ -66,7 +68,8 @@ pub(crate) fn whole_near(members: &List<Member>, name: &str, place: usize) -> Op
 pub(crate) fn truth_near(members: &List<Member>, name: &str, place: usize) -> Option<bool>
     requires { HaveRisingNames (pairs members.now) }
     ensures { IsTheOne (λ (truth : Bool).
-        value_at name.now (pairs members.now) ≡ Some (if truth then true_word else false_word)) result }
+        value_at name.now (pairs members.now) ≡ Some (if truth then true_word else false_word))
+        result }
 {
     truth_of(value_near(members, name, place)?)
 }

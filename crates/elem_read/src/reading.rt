@@ -23,12 +23,14 @@ use std::alloc::Global;
 /// How many brackets may be open at once in an element, its own counted.
 const DEEPEST: u64 = 120;
 
-/// The element that the value is, the defaults of its missing members filled in. `None` comes exactly where the value
-/// is an object whose `type` is the text `selection`, whatever else is in it, and a fault exactly where it is the
-/// first.
+/// The element that the value is, the defaults of its missing members filled in. `None` comes
+/// exactly where the value is an object whose `type` is the text `selection`, whatever else is in
+/// it, and a fault exactly where it is the first.
 pub fn read_element(alloc: Global, value: &Raw) -> Result<Option<Element>, Stop<ElemFault>>
-    ensures read { IfOk result (λ found. MatchOption found (IsSelection value.now) (IsElementIn value.now)) }
-    ensures fault { (fault : ElemFault) → result ≡ Err (Stop.Fault fault) → IsFaultIn value.now fault }
+    ensures read { IfOk result (λ found. MatchOption found (IsSelection value.now)
+        (IsElementIn value.now)) }
+    ensures fault { (fault : ElemFault) → result ≡ Err (Stop.Fault fault)
+        → IsFaultIn value.now fault }
     ensures whole { IfOk result (λ found. IfSome found IsWholeElement) }
 {
     let taken = shaped(members(alloc, value))?;
@@ -63,7 +65,8 @@ fn read_members(
 
 /// Whether an element with these members nests at most as deep as it may.
 fn is_shallow(members: &List<Member>) -> bool
-    ensures { (value : Items ℕ) → IsObject value (pairs members.now) → IsTrue result ↔ IsCompact 120 value }
+    ensures { (value : Items ℕ) → IsObject value (pairs members.now) → IsTrue result
+        ↔ IsCompact 120 value }
 {
     for member in members.as_slice() {
         if !nests_within(&member.value, DEEPEST - 1) {
@@ -73,8 +76,8 @@ fn is_shallow(members: &List<Member>) -> bool
     true
 }
 
-/// Whether at most so many brackets are open at once in the value. Most values aren't looked through, since they have
-/// no more bytes than that.
+/// Whether at most so many brackets are open at once in the value. Most values aren't looked
+/// through, since they have no more bytes than that.
 #[tactic(auto, using(crate::proofs::ShortValues::short_nests))]
 fn nests_within(value: &Raw, limit: u64) -> bool
     ensures { IsTrue result ↔ IsCompact limit value.now }
@@ -82,7 +85,8 @@ fn nests_within(value: &Raw, limit: u64) -> bool
     value.as_bytes().len() as u64 <= limit || nests_at_most(value, limit)
 }
 
-/// The elements that the values are, in their order, without what is dropped; or the first faulty one.
+/// The elements that the values are, in their order, without what is dropped; or the first faulty
+/// one.
 pub fn read_elements(
     alloc: Global,
     values: &List<Raw>,
@@ -102,8 +106,8 @@ pub fn read_elements(
     Ok(List::from_vec(elements))
 }
 
-/// The elements that the items left of an array are, in their order, without what is dropped; or the first faulty one.
-/// Each item is taken apart as it comes.
+/// The elements that the items left of an array are, in their order, without what is dropped; or
+/// the first faulty one. Each item is taken apart as it comes.
 pub fn read_array(
     alloc: Global,
     objects: &mut Objects<'_>,
@@ -111,9 +115,11 @@ pub fn read_array(
     ensures read { IfOk result (λ elements. (values : Items (Items ℕ)) → AreLeft objects.old values
         → AreRead values elements) }
     ensures fault { (faulty : FaultyElement) → result ≡ Err (Stop.Fault faulty)
-        → (values : Items (Items ℕ)) → AreLeft objects.old values → IsFirstFaulty values faulty.place faulty.fault }
+        → (values : Items (Items ℕ)) → AreLeft objects.old values
+        → IsFirstFaulty values faulty.place faulty.fault }
     ensures whole { IfOk result (All IsWholeElement) }
-    ensures behind { (members : Items Pair) → AreBehind objects.old members → AreBehind objects.new members }
+    ensures behind { (members : Items Pair) → AreBehind objects.old members
+        → AreBehind objects.new members }
 {
     let mut elements = Vec::new(alloc);
     let mut place = 0;
@@ -129,7 +135,8 @@ pub fn read_array(
 
 /// The element that the value at this place is, if it isn't dropped.
 fn read_at(alloc: Global, value: &Raw, place: usize) -> Result<Option<Element>, Stop<FaultyElement>>
-    ensures read { IfOk result (λ found. MatchOption found (IsSelection value.now) (IsElementIn value.now)) }
+    ensures read { IfOk result (λ found. MatchOption found (IsSelection value.now)
+        (IsElementIn value.now)) }
     ensures fault { (faulty : FaultyElement) → result ≡ Err (Stop.Fault faulty)
         → (faulty.place ≡ place) × IsFaultIn value.now faulty.fault }
 {

@@ -18,10 +18,13 @@ use Rattle.elem_store.proofs.Lists.{find-None, Contains-head}
 use Rattle.elem_store.proofs.Rising.{member, less-other}
 
 -- an update that is taken is the element of its id, and the elements of other ids stay
-HasTaken-from : (elements new : List ElementValue) (e : ElementValue) → are_rising (ids_of new) ≡ true → Contains new e → is_taken elements e ≡ true → ((id : List ℕ) → has_id id e ≡ false → element_of new id ≡ element_of elements id) → HasTaken elements e new
+HasTaken-from : (elements new : List ElementValue) (e : ElementValue) → are_rising (ids_of new) ≡ true → Contains new e
+    → is_taken elements e ≡ true → ((id : List ℕ) → has_id id e ≡ false → element_of new id ≡ element_of elements id)
+    → HasTaken elements e new
 HasTaken-from elements new e rising among taken others = record { ordered = rising; each = each }
   where
-    each : (id : List ℕ) → element_of new id ≡ cond (has_id id e && is_taken elements e) (Some e) (element_of elements id)
+    each : (id : List ℕ) → element_of new id ≡ cond (has_id id e && is_taken elements e) (Some e)
+        (element_of elements id)
     each id =
         let given = λ (own : Bool) (taken : Bool). cond (own && taken) (Some e) (element_of elements id) in
         elim (cases_Bool (has_id id e)) [
@@ -31,21 +34,29 @@ HasTaken-from elements new e rising among taken others = record { ordered = risi
         ]
 
 -- one that isn't taken changes nothing
-pub HasTaken-not : (elements : List ElementValue) (e : ElementValue) → are_rising (ids_of elements) ≡ true → is_taken elements e ≡ false → HasTaken elements e elements
+pub HasTaken-not : (elements : List ElementValue) (e : ElementValue) → are_rising (ids_of elements) ≡ true
+    → is_taken elements e ≡ false → HasTaken elements e elements
 HasTaken-not elements e rising not_taken = record { ordered = rising; each = each }
   where
-    each : (id : List ℕ) → element_of elements id ≡ cond (has_id id e && is_taken elements e) (Some e) (element_of elements id)
+    each : (id : List ℕ) → element_of elements id ≡ cond (has_id id e && is_taken elements e) (Some e)
+        (element_of elements id)
     each id =
-        elim (has_id id e) as (λ b. element_of elements id ≡ cond (b && is_taken elements e) (Some e) (element_of elements id)) [
+        elim (has_id id e) as (λ b. element_of elements id
+        ≡ cond (b && is_taken elements e) (Some e) (element_of elements id)) [
           | true ↦ sym (cond-false (is_taken elements e) (Some e) (element_of elements id) not_taken)
           | false ↦ refl
         ]
 
 module _ (elements : List ElementValue) (rising : are_rising (ids_of elements) ≡ true) where
   -- the element at the place of an id is the one of that id
-  pub element-at : (id : List ℕ) (i : ℕ) (x : ElementValue) → slice_get elements i ≡ Some x → x.id ≡ id → element_of elements id ≡ Some x
+  pub element-at : (id : List ℕ) (i : ℕ) (x : ElementValue) → slice_get elements i ≡ Some x → x.id ≡ id
+      → element_of elements id ≡ Some x
   element-at id i x h e =
-      ap (element_of elements) (sym e) ∙ member None None elements x rising (i, slice_get_within elements i x h, get_or_from_slice_get elements i x x h)
+      ap (element_of elements) (sym e) ∙ member None None elements x rising (
+        i,
+        slice_get_within elements i x h,
+        get_or_from_slice_get elements i x x h,
+      )
 
   module _ (e : ElementValue) (i : ℕ) (x : ElementValue) (at : slice_get elements i ≡ Some x) (same : x.id ≡ e.id) where
     within : i < length elements
@@ -58,7 +69,9 @@ module _ (elements : List ElementValue) (rising : are_rising (ids_of elements) �
     pub ids-set : ids_of (set elements i e) ≡ ids_of elements
     ids-set =
         map-set (λ (y : ElementValue). y.id) elements i e
-        ∙ ap (set (ids_of elements) i) (sym same ∙ ap (λ (y : ElementValue). y.id) (sym (get_or_from_slice_get elements i x e at)) ∙ sym (get_or-map (λ (y : ElementValue). y.id) elements i e e.id within))
+        ∙ ap (set (ids_of elements) i) (sym same
+        ∙ ap (λ (y : ElementValue). y.id) (sym (get_or_from_slice_get elements i x e at))
+        ∙ sym (get_or-map (λ (y : ElementValue). y.id) elements i e e.id within))
         ∙ set-get_or (ids_of elements) i e.id
 
     pub HasTaken-set : beats e x ≡ true → HasTaken elements e (set elements i e)
@@ -66,11 +79,17 @@ module _ (elements : List ElementValue) (rising : are_rising (ids_of elements) �
         HasTaken-from elements (set elements i e) e (ap are_rising ids-set ∙ rising)
         (i, rw (length-set elements i e) within, get_or-set_same elements i e e within)
         (is_taken-at ∙ better)
-        (λ id f. find_past (has_id id) elements i e e (ap (has_id id) (get_or_from_slice_get elements i x e at) ∙ ap (bytes_eq id) same ∙ f) f)
+        (λ id f. find_past (has_id id) elements i e e (ap (has_id id) (get_or_from_slice_get elements i x e at)
+        ∙ ap (bytes_eq id) same ∙ f) f)
 
 -- keys that rise still rise with one more between the lesser and the greater ones
-rising-between : (a b : Option (List ℕ)) (before after : List ElementValue) (e : ElementValue) → rise_between a b (ids_of (before ++ after)) ≡ true → AllByRecursion (λ (x : ElementValue). bytes_less x.id e.id ≡ true) before → AllByRecursion (λ (x : ElementValue). bytes_less e.id x.id ≡ true) after → ends_rise a (Some e.id) ≡ true → ends_rise (Some e.id) b ≡ true → rise_between a b (ids_of (before ++ e ∷ after)) ≡ true
-rising-between a b [] [] e h less greater low high = and_from (ends_rise a (Some e.id)) (ends_rise (Some e.id) b) low high
+rising-between : (a b : Option (List ℕ)) (before after : List ElementValue) (e : ElementValue)
+    → rise_between a b (ids_of (before ++ after)) ≡ true
+    → AllByRecursion (λ (x : ElementValue). bytes_less x.id e.id ≡ true) before
+    → AllByRecursion (λ (x : ElementValue). bytes_less e.id x.id ≡ true) after → ends_rise a (Some e.id) ≡ true
+    → ends_rise (Some e.id) b ≡ true → rise_between a b (ids_of (before ++ e ∷ after)) ≡ true
+rising-between a b [] [] e h less greater low high =
+    and_from (ends_rise a (Some e.id)) (ends_rise (Some e.id) b) low high
 rising-between a b [] (x ∷ after) e h less greater low high =
     and_from (ends_rise a (Some e.id)) (rise_between (Some e.id) b (ids_of (x ∷ after))) low
     (and_from (bytes_less e.id x.id) (rise_between (Some x.id) b (ids_of after)) greater.0
@@ -81,18 +100,24 @@ rising-between a b (x ∷ before) after e h less greater low high =
     (rising-between (Some x.id) b before after e parts.1 less.1 greater less.0 high)
 
 -- an id that has a gap has no element
-pub element-gap : (elements : List ElementValue) (id : List ℕ) (i : ℕ) → IsGapFor elements id i → element_of elements id ≡ None
+pub element-gap : (elements : List ElementValue) (id : List ℕ) (i : ℕ) → IsGapFor elements id i
+    → element_of elements id ≡ None
 element-gap elements id i gap =
-    let before = All-weaker (λ (x : ElementValue). bytes_less x.id id ≡ true) (λ x. has_id id x ≡ false) (λ x l. of_other id x (λ same. less-other x.id id l (sym same))) (take i elements) gap.less_before in
-    let after = All-weaker (λ (x : ElementValue). bytes_less id x.id ≡ true) (λ x. has_id id x ≡ false) (λ x l. of_other id x (less-other id x.id l)) (drop i elements) gap.greater_after in
+    let before = All-weaker (λ (x : ElementValue). bytes_less x.id id ≡ true) (λ x. has_id id x ≡ false)
+    (λ x l. of_other id x (λ same. less-other x.id id l (sym same))) (take i elements) gap.less_before in
+    let after = All-weaker (λ (x : ElementValue). bytes_less id x.id ≡ true) (λ x. has_id id x ≡ false)
+    (λ x l. of_other id x (less-other id x.id l)) (drop i elements) gap.greater_after in
     let all = All-append (λ x. has_id id x ≡ false) (take i elements) (drop i elements) before after in
-    find-None (has_id id) elements (λ x c. All-contains (λ x. has_id id x ≡ false) elements x (subst (All (λ x. has_id id x ≡ false)) (take-append-drop i elements) all) c)
+    find-None (has_id id) elements (λ x c. All-contains (λ x. has_id id x ≡ false) elements x
+    (subst (All (λ x. has_id id x ≡ false)) (take-append-drop i elements) all) c)
 
 -- so an update of it is taken
-pub is_taken-gap : (elements : List ElementValue) (e : ElementValue) (i : ℕ) → IsGapFor elements e.id i → is_taken elements e ≡ true
+pub is_taken-gap : (elements : List ElementValue) (e : ElementValue) (i : ℕ) → IsGapFor elements e.id i
+    → is_taken elements e ≡ true
 is_taken-gap elements e i gap = ap (λ o. option_map_or (beats e) o true) (element-gap elements e.id i gap)
 
-pub HasTaken-insert : (elements : List ElementValue) (e : ElementValue) (i : ℕ) → are_rising (ids_of elements) ≡ true → IsGapFor elements e.id i → HasTaken elements e (insert elements i e)
+pub HasTaken-insert : (elements : List ElementValue) (e : ElementValue) (i : ℕ) → are_rising (ids_of elements) ≡ true
+    → IsGapFor elements e.id i → HasTaken elements e (insert elements i e)
 HasTaken-insert elements e i rising gap =
     let before = take i elements in
     let after = drop i elements in

@@ -32,9 +32,11 @@ module _ (c : Ordering) (apart : Equal ≢ c) where
 
 -- an element is told apart from an id by its front
 pub placed-decides : (c : Ordering) → Equal ≢ c → (elements : List ElementValue) (place : ℕ) (id known : List ℕ)
-    → slice_get (map front_at elements) place ≡ Some known → slice_cmp nat_cmp known (front_of id) ≡ c → order_at elements id place ≡ c
+    → slice_get (map front_at elements) place ≡ Some known → slice_cmp nat_cmp known (front_of id) ≡ c
+    → order_at elements id place ≡ c
 placed-decides c apart [] place id known there is = absurd (cc)
 placed-decides c apart (e ∷ elements) zero id known there is =
     let same : front_at e ≡ known = cc in
     fronts-decide c apart 8 e.id id (ap (λ f. slice_cmp nat_cmp f (front_of id)) same ∙ is)
-placed-decides c apart (e ∷ elements) (suc place) id known there is = placed-decides c apart elements place id known there is
+placed-decides c apart (e ∷ elements) (suc place) id known there is =
+    placed-decides c apart elements place id known there is

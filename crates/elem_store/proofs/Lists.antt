@@ -32,18 +32,23 @@ module _ {X : Type 0} (p : X → Bool) where
   pub find-None : (xs : List X) → ((x : X) → Contains xs x → p x ≡ false) → find p xs ≡ None
   find-None [] h = refl
   find-None (y ∷ xs) h =
-      cond-false (p y) (Some y) (find p xs) (h y (Contains-head y xs)) ∙ find-None xs (λ x c. h x (Contains-cons y xs x c))
+      cond-false (p y) (Some y) (find p xs) (h y (Contains-head y xs))
+      ∙ find-None xs (λ x c. h x (Contains-cons y xs x c))
 
   -- something is found exactly if an element passes
   pub is_some-find : (xs : List X) → is_some (find p xs) ≡ list_any p xs
   is_some-find [] = refl
   is_some-find (x ∷ xs) =
-      elim (p x) as (λ b. is_some (cond b (Some x) (find p xs)) ≡ (b || list_any p xs)) [ true ↦ refl | false ↦ is_some-find xs ]
+      elim (p x) as (λ b. is_some (cond b (Some x) (find p xs)) ≡ (b || list_any p xs)) [
+        | true ↦ refl
+        | false ↦ is_some-find xs
+      ]
 
   pub find-filter : (q : X → Bool) (xs : List X) → find (λ x. p x && q x) xs ≡ find q (filter p xs)
   find-filter q [] = refl
   find-filter q (x ∷ xs) =
-      elim (p x) as (λ b. cond (b && q x) (Some x) (find (λ x. p x && q x) xs) ≡ find q (cond b (x ∷ filter p xs) (filter p xs))) [
+      elim (p x) as (λ b. cond (b && q x) (Some x) (find (λ x. p x && q x) xs)
+      ≡ find q (cond b (x ∷ filter p xs) (filter p xs))) [
         | true ↦ ap (cond (q x) (Some x)) (find-filter q xs)
         | false ↦ find-filter q xs
       ]
@@ -51,7 +56,8 @@ module _ {X : Type 0} (p : X → Bool) where
   pub list_any-filter : (q : X → Bool) (xs : List X) → list_any (λ x. p x && q x) xs ≡ list_any q (filter p xs)
   list_any-filter q [] = refl
   list_any-filter q (x ∷ xs) =
-      elim (p x) as (λ b. ((b && q x) || list_any (λ x. p x && q x) xs) ≡ list_any q (cond b (x ∷ filter p xs) (filter p xs))) [
+      elim (p x) as (λ b. ((b && q x) || list_any (λ x. p x && q x) xs)
+      ≡ list_any q (cond b (x ∷ filter p xs) (filter p xs))) [
         | true ↦ ap (λ b. q x || b) (list_any-filter q xs)
         | false ↦ list_any-filter q xs
       ]
@@ -60,10 +66,12 @@ module _ {X : Type 0} (p : X → Bool) where
   pub Contains-filter : (xs : List X) (x : X) → Contains xs x → p x ≡ true → Contains (filter p xs) x
   Contains-filter [] x c h = absurd (omega (arith, c.1))
   Contains-filter (y ∷ xs) x (zero, l, e) h =
-      rw (cond-true (p y) (y ∷ filter p xs) (filter p xs) (ap p e ∙ h)) (subst (Contains (y ∷ filter p xs)) e (Contains-head y (filter p xs)))
+      rw (cond-true (p y) (y ∷ filter p xs) (filter p xs) (ap p e ∙ h))
+      (subst (Contains (y ∷ filter p xs)) e (Contains-head y (filter p xs)))
   Contains-filter (y ∷ xs) x (suc k, l, e) h =
       let r = Contains-filter xs x (k, omega arith, e) h in
-      elim (p y) as (λ b. Contains (cond b (y ∷ filter p xs) (filter p xs)) x) [ true ↦ Contains-cons y (filter p xs) x r | false ↦ r ]
+      elim (p y) as (λ b. Contains (cond b (y ∷ filter p xs) (filter p xs)) x)
+      [ true ↦ Contains-cons y (filter p xs) x r | false ↦ r ]
 
   -- what is kept is an element that passes
   pub filter-Contains : (xs : List X) (x : X) → Contains (filter p xs) x → Contains xs x × (p x ≡ true)

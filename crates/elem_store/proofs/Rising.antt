@@ -21,7 +21,8 @@ from_is_lt o h = grind arith
 
 less_trans : (a b c : List ℕ) → bytes_less a b ≡ true → bytes_less b c ≡ true → bytes_less a c ≡ true
 less_trans a b c h k =
-    ap is_lt (nat_list_cmp_total.trans a b c (from_is_lt (slice_cmp nat_cmp a b) h) (from_is_lt (slice_cmp nat_cmp b c) k))
+    ap is_lt (nat_list_cmp_total.trans a b c (from_is_lt (slice_cmp nat_cmp a b) h)
+    (from_is_lt (slice_cmp nat_cmp b c) k))
 
 -- a lesser id is another one
 pub less-other : (a b : List ℕ) → bytes_less a b ≡ true → a ≡ b → ⊥
@@ -32,7 +33,8 @@ pub less-less : (a b : List ℕ) → bytes_less a b ≡ true → bytes_less b a 
 less-less a b h k = less-other a a (less_trans a b a h k) refl
 
 -- the ids above an end are above it
-pub above : (k : List ℕ) (b : Option (List ℕ)) (elements : List ElementValue) (e : ElementValue) → rise_between (Some k) b (ids_of elements) ≡ true → Contains elements e → bytes_less k e.id ≡ true
+pub above : (k : List ℕ) (b : Option (List ℕ)) (elements : List ElementValue) (e : ElementValue)
+    → rise_between (Some k) b (ids_of elements) ≡ true → Contains elements e → bytes_less k e.id ≡ true
 above k b [] e h c = absurd (omega (arith, c.1))
 above k b (f ∷ elements) e h c =
     let parts = and_parts (bytes_less k f.id) (rise_between (Some f.id) b (ids_of elements)) h in
@@ -42,23 +44,28 @@ above k b (f ∷ elements) e h c =
     ]
 
 -- so the end is the id of none of them
-pub none_above : (k : List ℕ) (b : Option (List ℕ)) (elements : List ElementValue) → rise_between (Some k) b (ids_of elements) ≡ true → element_of elements k ≡ None
+pub none_above : (k : List ℕ) (b : Option (List ℕ)) (elements : List ElementValue)
+    → rise_between (Some k) b (ids_of elements) ≡ true → element_of elements k ≡ None
 none_above k b elements h =
     find-None (has_id k) elements (λ e c. of_other k e (less-other k e.id (above k b elements e h c)))
 
 -- an element of the list is the one of its id
-pub member : (a b : Option (List ℕ)) (elements : List ElementValue) (e : ElementValue) → rise_between a b (ids_of elements) ≡ true → Contains elements e → element_of elements e.id ≡ Some e
+pub member : (a b : Option (List ℕ)) (elements : List ElementValue) (e : ElementValue)
+    → rise_between a b (ids_of elements) ≡ true → Contains elements e → element_of elements e.id ≡ Some e
 member a b [] e h c = absurd (omega (arith, c.1))
 member a b (f ∷ elements) e h c =
     let parts = and_parts (ends_rise a (Some f.id)) (rise_between (Some f.id) b (ids_of elements)) h in
     elim (Contains-cases f elements e c) [
-      | inl same ↦ cond-true (has_id e.id f) (Some f) (element_of elements e.id) (subst (λ (x : ElementValue). has_id x.id f ≡ true) same (of_itself f)) ∙ ap Some same
-      | inr later ↦ cond-false (has_id e.id f) (Some f) (element_of elements e.id) (of_other e.id f (λ same. less-other f.id e.id (above f.id b elements e parts.1 later) (sym same)))
+      | inl same ↦ cond-true (has_id e.id f) (Some f) (element_of elements e.id)
+          (subst (λ (x : ElementValue). has_id x.id f ≡ true) same (of_itself f)) ∙ ap Some same
+      | inr later ↦ cond-false (has_id e.id f) (Some f) (element_of elements e.id)
+          (of_other e.id f (λ same. less-other f.id e.id (above f.id b elements e parts.1 later) (sym same)))
           ∙ member (Some f.id) b elements e parts.1 later
     ]
 
 -- the elements of two such lists are the same if those of each id are
-same_heads : (e f : ElementValue) (es fs : List ElementValue) → rise_between (Some e.id) None (ids_of es) ≡ true → rise_between (Some f.id) None (ids_of fs) ≡ true → Contains (f ∷ fs) e → Contains (e ∷ es) f → e ≡ f
+same_heads : (e f : ElementValue) (es fs : List ElementValue) → rise_between (Some e.id) None (ids_of es) ≡ true
+    → rise_between (Some f.id) None (ids_of fs) ≡ true → Contains (f ∷ fs) e → Contains (e ∷ es) f → e ≡ f
 same_heads e f es fs h k c d =
     elim (Contains-cases f fs e c) [
       | inl same ↦ sym same
@@ -71,15 +78,20 @@ same_heads e f es fs h k c d =
 first : (e : ElementValue) (es : List ElementValue) → element_of (e ∷ es) e.id ≡ Some e
 first e es = cond-true (has_id e.id e) (Some e) (element_of es e.id) (of_itself e)
 
-same_tails : (e : ElementValue) (es fs : List ElementValue) → rise_between (Some e.id) None (ids_of es) ≡ true → rise_between (Some e.id) None (ids_of fs) ≡ true → ((id : List ℕ) → element_of (e ∷ es) id ≡ element_of (e ∷ fs) id) → (id : List ℕ) → element_of es id ≡ element_of fs id
+same_tails : (e : ElementValue) (es fs : List ElementValue) → rise_between (Some e.id) None (ids_of es) ≡ true
+    → rise_between (Some e.id) None (ids_of fs) ≡ true
+    → ((id : List ℕ) → element_of (e ∷ es) id ≡ element_of (e ∷ fs) id) → (id : List ℕ)
+    → element_of es id ≡ element_of fs id
 same_tails e es fs h k same id =
     elim (cases_Bool (has_id id e)) [
       | inl t ↦ let own = same_id id e t in
           ap (element_of es) own ∙ none_above e.id None es h ∙ sym (ap (element_of fs) own ∙ none_above e.id None fs k)
-      | inr f ↦ sym (cond-false (has_id id e) (Some e) (element_of es id) f) ∙ same id ∙ cond-false (has_id id e) (Some e) (element_of fs id) f
+      | inr f ↦ sym (cond-false (has_id id e) (Some e) (element_of es id) f) ∙ same id
+          ∙ cond-false (has_id id e) (Some e) (element_of fs id) f
     ]
 
-pub same_elements : (es fs : List ElementValue) → are_rising (ids_of es) ≡ true → are_rising (ids_of fs) ≡ true → ((id : List ℕ) → element_of es id ≡ element_of fs id) → es ≡ fs
+pub same_elements : (es fs : List ElementValue) → are_rising (ids_of es) ≡ true → are_rising (ids_of fs) ≡ true
+    → ((id : List ℕ) → element_of es id ≡ element_of fs id) → es ≡ fs
 same_elements [] [] h k same = refl
 same_elements [] (f ∷ fs) h k same = absurd (none-some f (same f.id ∙ first f fs))
 same_elements (e ∷ es) [] h k same = absurd (none-some e (sym (same e.id) ∙ first e es))
@@ -87,16 +99,22 @@ same_elements (e ∷ es) (f ∷ fs) h k same =
     let one : e ≡ f = same_heads e f es fs h k
     (find-Some (has_id e.id) (f ∷ fs) e (sym (same e.id) ∙ first e es)).0
     (find-Some (has_id f.id) (e ∷ es) f (same f.id ∙ first f fs)).0 in
-    let k' : rise_between (Some e.id) None (ids_of fs) ≡ true = subst (λ (x : ElementValue). rise_between (Some x.id) None (ids_of fs) ≡ true) (sym one) k in
-    let same' : (id : List ℕ) → element_of (e ∷ es) id ≡ element_of (e ∷ fs) id = λ id. same id ∙ ap (λ x. element_of (x ∷ fs) id) (sym one) in
-    ap (λ x. e ∷ x) (same_elements es fs (rising_tail e es h) (rising_tail e fs k') (same_tails e es fs h k' same')) ∙ ap (λ x. x ∷ fs) one
+    let k' : rise_between (Some e.id) None (ids_of fs) ≡ true =
+    subst (λ (x : ElementValue). rise_between (Some x.id) None (ids_of fs) ≡ true) (sym one) k in
+    let same' : (id : List ℕ) → element_of (e ∷ es) id ≡ element_of (e ∷ fs) id =
+    λ id. same id ∙ ap (λ x. element_of (x ∷ fs) id) (sym one) in
+    ap (λ x. e ∷ x) (same_elements es fs (rising_tail e es h) (rising_tail e fs k') (same_tails e es fs h k' same'))
+    ∙ ap (λ x. x ∷ fs) one
   where
-    rising_tail : (e : ElementValue) (es : List ElementValue) → rise_between (Some e.id) None (ids_of es) ≡ true → are_rising (ids_of es) ≡ true
+    rising_tail : (e : ElementValue) (es : List ElementValue) → rise_between (Some e.id) None (ids_of es) ≡ true
+        → are_rising (ids_of es) ≡ true
     rising_tail e [] h = refl
     rising_tail e (f ∷ es) h = (and_parts (bytes_less e.id f.id) (rise_between (Some f.id) None (ids_of es)) h).1
 
 -- an earlier id is less than a later one
-pub earlier_less : (a b : Option (List ℕ)) (elements : List ElementValue) (i j : ℕ) (d : ElementValue) → rise_between a b (ids_of elements) ≡ true → i < j → j < length elements → bytes_less (get_or elements i d).id (get_or elements j d).id ≡ true
+pub earlier_less : (a b : Option (List ℕ)) (elements : List ElementValue) (i j : ℕ) (d : ElementValue)
+    → rise_between a b (ids_of elements) ≡ true → i < j → j < length elements
+    → bytes_less (get_or elements i d).id (get_or elements j d).id ≡ true
 earlier_less a b [] i j d h l m = absurd (omega arith)
 earlier_less a b (e ∷ elements) i zero d h l m = absurd (omega arith)
 earlier_less a b (e ∷ elements) zero (suc j) d h l m =

@@ -18,38 +18,48 @@ abbrev put : ElementValue → List ElementValue → List ElementValue
 put e [] = e ∷ []
 put e (f ∷ fs) = match_ordering (slice_cmp nat_cmp e.id f.id) (e ∷ f ∷ fs) (e ∷ fs) (f ∷ put e fs)
 
-put-rises : (low : Option (List ℕ)) (e : ElementValue) (fs : List ElementValue) → ends_rise low (Some e.id) ≡ true → rise_between low None (ids_of fs) ≡ true → rise_between low None (ids_of (put e fs)) ≡ true
+put-rises : (low : Option (List ℕ)) (e : ElementValue) (fs : List ElementValue) → ends_rise low (Some e.id) ≡ true
+    → rise_between low None (ids_of fs) ≡ true → rise_between low None (ids_of (put e fs)) ≡ true
 put-rises low e [] above rise = and_from _ _ above refl
 put-rises low e (f ∷ fs) above rise =
     let parts = and_parts (ends_rise low (Some f.id)) (rise_between (Some f.id) None (ids_of fs)) rise in
-    elim (slice_cmp nat_cmp e.id f.id) as (λ o. slice_cmp nat_cmp e.id f.id ≡ o → rise_between low None (ids_of (match_ordering o (e ∷ f ∷ fs) (e ∷ fs) (f ∷ put e fs))) ≡ true) [
+    elim (slice_cmp nat_cmp e.id f.id) as (λ o. slice_cmp nat_cmp e.id f.id ≡ o
+    → rise_between low None (ids_of (match_ordering o (e ∷ f ∷ fs) (e ∷ fs) (f ∷ put e fs))) ≡ true) [
       | Less ↦ λ less. and_from _ _ above (and_from _ _ (ap is_lt less) parts.1)
-      | Equal ↦ λ tied. and_from _ _ above (subst (λ id. rise_between (Some id) None (ids_of fs) ≡ true) (sym (bytes_eq-true e.id f.id (bytes_eq-tied e.id f.id tied))) parts.1)
-      | Greater ↦ λ more. and_from _ _ parts.0 (put-rises (Some f.id) e fs (ap is_lt (less_turned e.id f.id more)) parts.1)
+      | Equal ↦ λ tied. and_from _ _ above (subst (λ id. rise_between (Some id) None (ids_of fs) ≡ true)
+          (sym (bytes_eq-true e.id f.id (bytes_eq-tied e.id f.id tied))) parts.1)
+      | Greater ↦ λ more. and_from _ _ parts.0 (put-rises (Some f.id) e fs (ap is_lt (less_turned e.id f.id more))
+          parts.1)
     ] refl
 
-put-at : (id : List ℕ) (e : ElementValue) (fs : List ElementValue) → element_of (put e fs) id ≡ cond (has_id id e) (Some e) (element_of fs id)
+put-at : (id : List ℕ) (e : ElementValue) (fs : List ElementValue)
+    → element_of (put e fs) id ≡ cond (has_id id e) (Some e) (element_of fs id)
 put-at id e [] = refl
 put-at id e (f ∷ fs) =
     elim (slice_cmp nat_cmp e.id f.id) as (λ o. slice_cmp nat_cmp e.id f.id ≡ o →
-    element_of (match_ordering o (e ∷ f ∷ fs) (e ∷ fs) (f ∷ put e fs)) id ≡ cond (has_id id e) (Some e) (element_of (f ∷ fs) id)) [
+    element_of (match_ordering o (e ∷ f ∷ fs) (e ∷ fs) (f ∷ put e fs)) id
+    ≡ cond (has_id id e) (Some e) (element_of (f ∷ fs) id)) [
       | Less ↦ λ less. refl
       | Equal ↦ λ tied. elim (cases_Bool (bytes_eq id e.id)) [
         | inl own ↦ rw own refl
         | inr other ↦
-            let also : bytes_eq id f.id ≡ false = subst (λ x. bytes_eq id x ≡ false) (bytes_eq-true e.id f.id (bytes_eq-tied e.id f.id tied)) other in
+            let also : bytes_eq id f.id ≡ false =
+            subst (λ x. bytes_eq id x ≡ false) (bytes_eq-true e.id f.id (bytes_eq-tied e.id f.id tied)) other in
             rw (other, also) refl
       ]
       | Greater ↦ λ more. elim (cases_Bool (bytes_eq id f.id)) [
         | inl first ↦
-            let other : bytes_eq id e.id ≡ false = subst (λ x. bytes_eq x e.id ≡ false) (sym (bytes_eq-true id f.id first)) (bytes_eq-less f.id e.id (less_turned e.id f.id more)) in
+            let other : bytes_eq id e.id ≡ false =
+            subst (λ x. bytes_eq x e.id ≡ false) (sym (bytes_eq-true id f.id first))
+            (bytes_eq-less f.id e.id (less_turned e.id f.id more)) in
             rw (first, other) refl
         | inr later ↦ rw later (put-at id e fs)
       ]
     ] refl
 
 -- ---- one update more, and all of them
-pub taken : (elements : List ElementValue) (e : ElementValue) → are_rising (ids_of elements) ≡ true → (new : List ElementValue) × HasTaken elements e new
+pub taken : (elements : List ElementValue) (e : ElementValue) → are_rising (ids_of elements) ≡ true
+    → (new : List ElementValue) × HasTaken elements e new
 taken elements e rise = elim (cases_Bool (is_taken elements e)) [
   | inl takes ↦ (
     put e elements,
@@ -65,7 +75,8 @@ taken elements e rise = elim (cases_Bool (is_taken elements e)) [
     both true x y = refl
     both false x y = refl
 
-stored-behind : (done elements updates : List ElementValue) → AreStored done elements → (all : List ElementValue) × AreStored (done ++ updates) all
+stored-behind : (done elements updates : List ElementValue) → AreStored done elements → (all : List ElementValue)
+    × AreStored (done ++ updates) all
 stored-behind done elements [] are = (elements, subst (λ us. AreStored us elements) (sym (append-nil done)) are)
 stored-behind done elements (e ∷ updates) are =
     let next = taken elements e are.ordered in

@@ -1,4 +1,5 @@
--- How a store keeps its elements: as they came, beside their places in the order of their ids. This project's own.
+-- How a store keeps its elements: as they came, beside their places in the order of their ids. This
+-- project's own.
 use Rattle.std.specs.Prelude.{◌≡◌, ℕ, ◌-◌, min, ◌<◌, ◌≤◌, List, true, Option, None, All, length, take, drop, filter_map, slice_get, slice_index_or, slice_set, IsSomeAnd}
 use Rattle.std.specs.Cmp.Lexicographic.{slice_cmp}
 use Rattle.std.specs.Option.{option_and_then, option_map_or}
@@ -14,12 +15,13 @@ use Rattle.elem_store.specs.Updates.{ids_of}
 abbrev pub elements_at : List ElementValue → List ℕ → List ElementValue
 elements_at elements places = filter_map (slice_get elements) places
 
--- how many more elements fit in so much room, of which so much is taken, where so many more places do
+-- how many more elements fit in so much room, of which so much is taken, where so many more places
+-- do
 abbrev pub spare_in : ℕ → ℕ → ℕ → ℕ
 spare_in room count spare = min (room - count) spare
 
--- There are as many places as elements, each within the list, and the ids rise along them, so that no place comes
--- twice.
+-- There are as many places as elements, each within the list, and the ids rise along them, so that
+-- no place comes twice.
 pub record AreInOrder (elements : List ElementValue) (places : List ℕ) : Type 0 where
   pub within : All (λ place. place < length elements) places
   pub full : length places ≡ length elements
@@ -30,12 +32,15 @@ abbrev pub order_at : List ElementValue → List ℕ → ℕ → Ordering
 order_at elements id place = option_map_or (λ (e : ElementValue). slice_cmp nat_cmp e.id id)
     (slice_get elements place) Less
 
--- The ids at the places before the one index are less than an id, and those from the other index on are greater.
-pub record IsBetween (elements : List ElementValue) (places : List ℕ) (id : List ℕ) (low high : ℕ) : Type 0 where
+-- The ids at the places before the one index are less than an id, and those from the other index on
+-- are greater.
+pub record IsBetween (elements : List ElementValue) (places : List ℕ) (id : List ℕ) (low high : ℕ) :
+    Type 0 where
   pub low_within : low ≤ length places
   pub high_within : high ≤ length places
   pub less : (k d : ℕ) → k < low → order_at elements id (slice_index_or places k d) ≡ Less
-  pub greater : (k d : ℕ) → high ≤ k → k < length places → order_at elements id (slice_index_or places k d) ≡ Greater
+  pub greater : (k d : ℕ) → high ≤ k → k < length places
+      → order_at elements id (slice_index_or places k d) ≡ Greater
 
 -- the element at the index has the id
 abbrev pub IsAt : List ElementValue → List ℕ → ℕ → Type 0

@@ -2,8 +2,8 @@
 use Rattle.std.specs.Prelude.{ℕ, List}
 use Rattle.elem.specs.ElementValue.{ElementValue}
 
--- The stored elements, one for each id, in the order of the ids; and how many new ids there is room for. "As before" is
--- said of the elements: room may have grown.
+-- The stored elements, one for each id, in the order of the ids; and how many new ids there is room
+-- for. "As before" is said of the elements: room may have grown.
 pub record Stock : Type 0 where
   pub elements : List ElementValue
   pub spare : ℕ

@@ -18,7 +18,8 @@ is_best updates id e = has_id id e && is_unbeaten updates e
 abbrev pub best_updates : List ElementValue → List ℕ → List ElementValue
 best_updates updates id = filter (is_best updates id) updates
 
--- the stored element of an id: its best update, of which there is one alone, since those that none beats have one text
+-- the stored element of an id: its best update, of which there is one alone, since those that none
+-- beats have one text
 unfoldable pub stored_of : List ElementValue → List ℕ → Option ElementValue
 stored_of updates id = find (is_best updates id) updates
 
@@ -26,7 +27,8 @@ stored_of updates id = find (is_best updates id) updates
 abbrev pub element_of : List ElementValue → List ℕ → Option ElementValue
 element_of elements id = find (has_id id) elements
 
--- whether an update becomes stored where this is stored of its id: nothing is, or the update beats it
+-- whether an update becomes stored where this is stored of its id: nothing is, or the update beats
+-- it
 abbrev pub is_newer : ElementValue → Option ElementValue → Bool
 is_newer e stored = option_map_or (beats e) stored true
 
@@ -39,7 +41,8 @@ pub record Taking : Type 0 where
   pub before : Option ElementValue
   pub taken : ElementValue
 
--- which of further updates become stored behind these, in their order, each with what was stored before it
+-- which of further updates become stored behind these, in their order, each with what was stored
+-- before it
 abbrev pub takings : List ElementValue → List ElementValue → List Taking
 takings updates [] = []
 takings updates (e ∷ more) =
@@ -56,21 +59,24 @@ pub record AreStored (updates elements : List ElementValue) : Type 0 where
   pub ordered : are_rising (ids_of elements) ≡ true
   pub each : (id : List ℕ) → element_of elements id ≡ stored_of updates id
 
--- These are the elements after a store of the old ones was given an update: where it is taken it is the element of its
--- id, and the others stay.
-pub record HasTaken (old : List ElementValue) (e : ElementValue) (new : List ElementValue) : Type 0 where
+-- These are the elements after a store of the old ones was given an update: where it is taken it is
+-- the element of its id, and the others stay.
+pub record HasTaken (old : List ElementValue) (e : ElementValue) (new : List ElementValue) :
+    Type 0 where
   pub ordered : are_rising (ids_of new) ≡ true
-  pub each : (id : List ℕ) → element_of new id ≡ (if has_id id e && is_taken old e then Some e else element_of old id)
+  pub each : (id : List ℕ) → element_of new id
+      ≡ (if has_id id e && is_taken old e then Some e else element_of old id)
 
 -- whether the ids, versions and nonces of two updates agree, so that their texts decide
 abbrev pub are_tied : ElementValue → ElementValue → Bool
 are_tied e other = bytes_eq e.id other.id && (e.version == other.version && e.nonce == other.nonce)
 
--- Two updates clash where their id, version and nonce agree and they aren't the same; none do. A clash is told, and
--- decides nothing.
+-- Two updates clash where their id, version and nonce agree and they aren't the same; none do. A
+-- clash is told, and decides nothing.
 abbrev pub IsFreeOfClashes : List ElementValue → Type 0
 IsFreeOfClashes updates =
-    (e other : ElementValue) → Contains updates e → Contains updates other → are_tied e other ≡ true → e ≡ other
+    (e other : ElementValue) → Contains updates e → Contains updates other → are_tied e other ≡ true
+    → e ≡ other
 
 -- Each update of the one list is in the other one: order and repeats don't count.
 pub record HaveSameUpdates (updates others : List ElementValue) : Type 0 where

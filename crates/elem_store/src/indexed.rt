@@ -17,8 +17,9 @@ pub(crate) struct Late {
     pub(crate) place: usize,
 }
 
-/// Places in an order. Most of them are settled in one list; those that came lately stand beside it in a short one, so
-/// a new one moves few others. There is room for all of them in the long list.
+/// Places in an order. Most of them are settled in one list; those that came lately stand beside
+/// it in a short one, so a new one moves few others. There is room for all of them in the long
+/// list.
 #[derive(Drop)]
 pub(crate) struct Places {
     settled: Vec<usize>,
@@ -83,7 +84,8 @@ impl Places {
         make_room(&mut self.settled, &mut self.late, n)
     }
 
-    /// Puts the place at this index. It takes no memory where there is room; for want of memory nothing is changed.
+    /// Puts the place at this index. It takes no memory where there is room; for want of memory
+    /// nothing is changed.
     pub(crate) fn insert(&mut self, i: usize, place: usize) -> Result<(), AllocError>
         requires { i ≤ length self.old.places }
         ensures places { OnOk result (self.new.places ≡ insert self.old.places i place) }
@@ -97,15 +99,17 @@ impl Places {
     }
 }
 
-/// Makes room for this many more, in the long list, and in the short one as far as it serves. It takes no memory where
-/// there is room.
+/// Makes room for this many more, in the long list, and in the short one as far as it serves. It
+/// takes no memory where there is room.
 fn make_room(settled: &mut Vec<usize>, late: &mut Vec<Late>, n: usize) -> Result<(), AllocError>
     requires { vec_len settled.old + vec_len late.old ≤ vec_capacity settled.old }
     ensures settled { settled.new.items ≡ settled.old.items }
     ensures late { late.new.items ≡ late.old.items }
-    ensures room { OnOk result (vec_len settled.new + vec_len late.new + n ≤ vec_capacity settled.new) }
+    ensures room { OnOk result (vec_len settled.new + vec_len late.new + n ≤ vec_capacity
+        settled.new) }
     ensures kept { vec_capacity settled.old ≤ vec_capacity settled.new }
-    ensures succeeds { vec_len settled.old + vec_len late.old + n ≤ vec_capacity settled.old → IsOk result }
+    ensures succeeds { vec_len settled.old + vec_len late.old + n ≤ vec_capacity settled.old
+        → IsOk result }
 {
     if n <= settled.capacity() - settled.len() - late.len() {
         return Ok(());
@@ -159,8 +163,10 @@ fn put(settled: &mut Vec<usize>, late: &mut Vec<Late>, i: usize, place: usize)
     requires in_range { i ≤ vec_len settled.old + vec_len late.old }
     requires room { vec_len settled.old + vec_len late.old < vec_capacity settled.old }
     ensures gaps { AreGaps (vec_len settled.new) late.new.items }
-    ensures places { woven settled.new.items late.new.items ≡ insert (woven settled.old.items late.old.items) i place }
-    ensures count { vec_len settled.new + vec_len late.new ≡ vec_len settled.old + vec_len late.old + 1 }
+    ensures places { woven settled.new.items late.new.items
+        ≡ insert (woven settled.old.items late.old.items) i place }
+    ensures count { vec_len settled.new + vec_len late.new
+        ≡ vec_len settled.old + vec_len late.old + 1 }
     ensures kept { vec_capacity settled.old ≤ vec_capacity settled.new }
 {
     if late.len() < MOST_LATE && late.len() < late.capacity() {
@@ -197,8 +203,8 @@ fn put_settled(settled: &mut Vec<usize>, i: usize, place: usize)
     }
 }
 
-/// Puts the late places among the settled ones, from the back, so that each place moves once. There is room, so it
-/// takes no memory.
+/// Puts the late places among the settled ones, from the back, so that each place moves once.
+/// There is room, so it takes no memory.
 fn settle(settled: &mut Vec<usize>, late: &mut Vec<Late>)
     requires gaps { AreGaps (vec_len settled.old) late.old.items }
     requires room { vec_len settled.old + vec_len late.old ≤ vec_capacity settled.old }
@@ -224,7 +230,8 @@ fn move_up(settled: &mut Vec<usize>, from: usize, to: usize, by: usize)
     requires within { to + by < vec_len settled.old }
     ensures count { vec_len settled.new ≡ vec_len settled.old }
     ensures moved { settled.new.items ≡ take (from + by + 1) settled.old.items
-        ++ (take (to - from) (drop from settled.old.items) ++ drop (to + by + 1) settled.old.items) }
+        ++ (take (to - from) (drop from settled.old.items)
+        ++ drop (to + by + 1) settled.old.items) }
     ensures kept { vec_capacity settled.old ≤ vec_capacity settled.new }
 {
     settled.copy_within(from..to, from + by + 1);

@@ -16,7 +16,8 @@ pub fn empty_is_stored()
 
 /// Every list of updates has a store.
 pub fn store_exists()
-    ensures { (updates : List ElementValue) → (elements : List ElementValue) × AreStored updates elements }
+    ensures { (updates : List ElementValue) → (elements : List ElementValue)
+        × AreStored updates elements }
 {}
 
 /// A list of updates has one store.
@@ -34,9 +35,11 @@ pub fn update_is_stored()
 /// A stored element is the best update of its id, and an id has one exactly if an update has it.
 pub fn best_is_stored()
     ensures best { (updates elements : List ElementValue) (e : ElementValue)
-        → AreStored updates elements → Contains elements e → Contains (best_updates updates e.id) e }
+        → AreStored updates elements → Contains elements e
+        → Contains (best_updates updates e.id) e }
     ensures each_id { (updates elements : List ElementValue) (id : List ℕ)
-        → AreStored updates elements → is_some (element_of elements id) ≡ list_any (has_id id) updates }
+        → AreStored updates elements → is_some (element_of elements id)
+        ≡ list_any (has_id id) updates }
 {}
 
 /// All best updates of an id are the same.
@@ -48,7 +51,8 @@ pub fn best_is_unique()
 
 /// What is stored is the best update of each id.
 pub fn stored_are_best()
-    ensures { (updates elements : List ElementValue) → AreStored updates elements → AreBest updates elements }
+    ensures { (updates elements : List ElementValue) → AreStored updates elements
+        → AreBest updates elements }
 {}
 
 /// The best update of each id is what is stored: there is no choice.
@@ -64,7 +68,8 @@ pub fn stores_converge()
         → AreStored updates elements → AreStored others news → elements ≡ news }
 {}
 
-/// Their grouping doesn't count: what is stored of two stores' elements is what is stored of their updates.
+/// Their grouping doesn't count: what is stored of two stores' elements is what is stored of their
+/// updates.
 pub fn stores_join()
     ensures { (updates others elements news all : List ElementValue)
         → AreStored updates elements → AreStored others news
@@ -73,7 +78,8 @@ pub fn stores_join()
 
 /// Elements whose ids rise are their own store.
 pub fn store_is_stored()
-    ensures { (elements : List ElementValue) → are_rising (ids_of elements) ≡ true → AreStored elements elements }
+    ensures { (elements : List ElementValue) → are_rising (ids_of elements) ≡ true
+        → AreStored elements elements }
 {}
 
 /// What is stored was among the updates, so it is elements where these are.
@@ -97,7 +103,8 @@ pub fn ids_stay_stored()
         → is_some (element_of elements id) ≡ true → is_some (element_of news id) ≡ true }
 {}
 
-/// Which of further updates become stored, and over what, is told by the stored elements as by the updates.
+/// Which of further updates become stored, and over what, is told by the stored elements as by the
+/// updates.
 pub fn takings_are_of_the_stored()
     ensures { (updates elements more : List ElementValue) → AreStored updates elements
         → takings elements more ≡ takings updates more }
@@ -107,6 +114,7 @@ pub fn takings_are_of_the_stored()
 pub fn distinct_are_stored()
     ensures { (updates elements : List ElementValue) (e : ElementValue)
         → AreStored updates elements
-        → ((e other : ElementValue) → Contains updates e → Contains updates other → e.id ≡ other.id → e ≡ other)
+        → ((e other : ElementValue) → Contains updates e → Contains updates other → e.id ≡ other.id
+        → e ≡ other)
         → Contains updates e → Contains elements e }
 {}

@@ -20,18 +20,20 @@ struct Stretch {
     to: usize,
 }
 
-/// The index of the place at which the element of this id is, or the index that its place would have.
+/// The index of the place at which the element of this id is, or the index that its place would
+/// have.
 pub(crate) fn find_place(elements: &Shelf, places: &Places, id: &Text) -> Result<usize, usize>
     requires { AreInOrder elements.now.items places.now.places }
     ensures found { IfOk result (IsAt (elements_at elements.now.items places.now.places) id.now) }
-    ensures absent { IfErr result (IsGapFor (elements_at elements.now.items places.now.places) id.now) }
+    ensures absent { IfErr result (IsGapFor (elements_at elements.now.items places.now.places)
+        id.now) }
 {
     let (settled, late) = places.parts();
     find_among(elements, settled, late, id, front_of(id.as_bytes()))
 }
 
-/// The same, among the settled places with the late ones, by the id and its front. The late ones are searched first,
-/// and then the settled ones between two of them alone.
+/// The same, among the settled places with the late ones, by the id and its front. The late ones
+/// are searched first, and then the settled ones between two of them alone.
 fn find_among(
     elements: &Shelf,
     settled: &Vec<usize>,
@@ -45,7 +47,8 @@ fn find_among(
     ensures found { IfOk result
         (IsAt (elements_at elements.now.items (woven settled.now.items late.now.items)) id.now) }
     ensures absent { IfErr result
-        (IsGapFor (elements_at elements.now.items (woven settled.now.items late.now.items)) id.now) }
+        (IsGapFor (elements_at elements.now.items (woven settled.now.items late.now.items))
+        id.now) }
 {
     let (before, from, to) = match find_late(elements, settled, late, id, front) {
         Ok(i) => return Ok(i),
@@ -64,8 +67,8 @@ fn find_among(
     Err(low + before)
 }
 
-/// The index of the late place at which the element of this id is, or the stretch of settled places that its place
-/// would be among.
+/// The index of the late place at which the element of this id is, or the stretch of settled
+/// places that its place would be among.
 fn find_late(
     elements: &Shelf,
     settled: &Vec<usize>,
@@ -80,7 +83,8 @@ fn find_late(
         (IsAt (elements_at elements.now.items (woven settled.now.items late.now.items)) id.now) }
     ensures between { IfErr result (λ s. IsBetween elements.now.items
         (woven settled.now.items late.now.items) id.now (s.from + s.late) (s.to + s.late)) }
-    ensures aside { IfErr result (λ s. AreAside late.now.items s.late s.late (s.from + s.late) (s.to + s.late)) }
+    ensures aside { IfErr result (λ s. AreAside late.now.items s.late s.late (s.from + s.late)
+        (s.to + s.late)) }
     ensures within { IfErr result (λ s. s.to ≤ vec_len settled.now) }
 {
     let mut from = 0;
@@ -113,7 +117,8 @@ fn find_late(
 pub(crate) fn replace_beaten(elements: &mut Shelf, place: usize, e: Element) -> bool
     requires { place < length elements.old.items }
     ensures beaten { result ≡ order.beats e (slice_index_or elements.old.items place e) }
-    ensures items { elements.new.items ≡ (if result then slice_set elements.old.items place e else elements.old.items) }
+    ensures items { elements.new.items
+        ≡ (if result then slice_set elements.old.items place e else elements.old.items) }
     ensures room { elements.new.room ≡ elements.old.room }
 {
     let old = elements.get(place).unwrap();
@@ -124,7 +129,8 @@ pub(crate) fn replace_beaten(elements: &mut Shelf, place: usize, e: Element) -> 
     beaten
 }
 
-/// Adds the element, its place at this index, or hands it back for want of memory; nothing is then changed.
+/// Adds the element, its place at this index, or hands it back for want of memory; nothing is
+/// then changed.
 pub(crate) fn add(
     elements: &mut Shelf,
     places: &mut Places,
@@ -133,11 +139,14 @@ pub(crate) fn add(
 ) -> Result<(), (Element, AllocError)>
     requires { i ≤ length places.old.places }
     ensures elements { OnOk result (elements.new.items ≡ elements.old.items ++ e ∷ []) }
-    ensures places { OnOk result (places.new.places ≡ insert places.old.places i (length elements.old.items)) }
+    ensures places { OnOk result (places.new.places
+        ≡ insert places.old.places i (length elements.old.items)) }
     ensures err { IfErr result (λ back. (elements.new.items ≡ elements.old.items)
         × (places.new.places ≡ places.old.places) × (back.0 ≡ e)) }
-    ensures room { length elements.old.items < elements.old.room → 0 < places.old.spare → IsOk result }
-    ensures kept { (elements.old.room ≤ elements.new.room) × (places.old.spare ≤ places.new.spare + 1) }
+    ensures room { length elements.old.items < elements.old.room → 0 < places.old.spare
+        → IsOk result }
+    ensures kept { (elements.old.room ≤ elements.new.room)
+        × (places.old.spare ≤ places.new.spare + 1) }
 {
     if let Err(error) = places.reserve(1) {
         return Err((e, error));
@@ -150,7 +159,8 @@ pub(crate) fn add(
     }
 }
 
-/// The elements at the places of these indices, in the order of the indices, moved out. No index comes twice.
+/// The elements at the places of these indices, in the order of the indices, moved out. No index
+/// comes twice.
 pub(crate) fn moved_out(
     alloc: Global,
     elements: Shelf,
@@ -175,7 +185,8 @@ pub(crate) fn moved_out(
 /// Takes out what is in the slot at the place of this index.
 fn take_at(slots: &mut Vec<Option<Element>>, places: &Places, i: usize) -> Option<Element>
     ensures taken { result ≡ slot_at slots.old.items (slice_get places.now.places i) }
-    ensures left { slots.new.items ≡ with_empty_at slots.old.items (slice_get places.now.places i) }
+    ensures left { slots.new.items
+        ≡ with_empty_at slots.old.items (slice_get places.now.places i) }
 {
     let place = places.get(i)?;
     slots.get_mut(place)?.take()

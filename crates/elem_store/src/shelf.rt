@@ -14,8 +14,8 @@ use std::marker::Model;
 /// The first bytes of an id, and zeros where it is shorter.
 pub(crate) type Front = [u8; 8];
 
-/// Elements as they came. Beside them stand the fronts of their ids, which are close together in memory, so that ids
-/// are mostly told apart without a look at an element.
+/// Elements as they came. Beside them stand the fronts of their ids, which are close together in
+/// memory, so that ids are mostly told apart without a look at an element.
 #[derive(Drop)]
 pub(crate) struct Shelf {
     elements: Vec<Element>,
@@ -80,8 +80,8 @@ impl Shelf {
         self.elements.get(place)
     }
 
-    /// How the id of the element at a place compares with another id, whose front this is. All places that are searched
-    /// have an element.
+    /// How the id of the element at a place compares with another id, whose front this is. All
+    /// places that are searched have an element.
     pub(crate) fn order_at(&self, place: usize, id: &Text, front: Front) -> Ordering
         requires { front ≡ front_of id.now }
         ensures { result ≡ places.order_at self.now.items id.now place }
@@ -116,7 +116,8 @@ impl Shelf {
         self.elements.reserve(n)
     }
 
-    /// Adds the element at the end, or hands it back for want of memory. It takes no memory where there is room.
+    /// Adds the element at the end, or hands it back for want of memory. It takes no memory where
+    /// there is room.
     pub(crate) fn push(&mut self, e: Element) -> Result<(), (Element, AllocError)>
         ensures ok { OnOk result (self.new.items ≡ self.old.items ++ e ∷ []) }
         ensures err { IfErr result (λ back. (self.new.items ≡ self.old.items) × (back.0 ≡ e)) }

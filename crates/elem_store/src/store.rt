@@ -16,8 +16,8 @@ use std::marker::Model;
 
 /// The stored elements of a board, one for each id, in the order of the ids.
 ///
-/// They are kept as they came, beside their places in the order of their ids: a new element moves places alone, and of
-/// those few.
+/// They are kept as they came, beside their places in the order of their ids: a new element
+/// moves places alone, and of those few.
 pub struct Store {
     elements: Shelf,
     places: Places,
@@ -80,19 +80,22 @@ impl Store {
         self.elements.reserve(n)
     }
 
-    /// Stores the element where its id is new or it beats the stored one, and tells whether it did. For want of memory
-    /// it hands the element back, and the stored elements are unchanged. It takes no memory where the id is stored or
-    /// there is room for a new one.
+    /// Stores the element where its id is new or it beats the stored one, and tells whether it
+    /// did. For want of memory it hands the element back, and the stored elements are unchanged.
+    /// It takes no memory where the id is stored or there is room for a new one.
     pub fn take(&mut self, e: Element) -> Result<bool, (Element, AllocError)>
-        // What is stored of a list of updates is then stored of the list with this one at its end.
+        // What is stored of a list of updates is then stored of the list with this one at its
+        // end.
         ensures stored { OnOk result ((updates : Items ElementValue)
-            → AreStored updates self.old.elements → AreStored (updates ++ e ∷ []) self.new.elements) }
+            → AreStored updates self.old.elements
+            → AreStored (updates ++ e ∷ []) self.new.elements) }
 
         ensures after { OnOk result (HasTaken self.old.elements e self.new.elements) }
         ensures taken { IfOk result (λ taken. taken ≡ is_taken self.old.elements e) }
         ensures left { result ≡ Ok false → self.new.elements ≡ self.old.elements }
 
-        ensures err { IfErr result (λ back. (self.new.elements ≡ self.old.elements) × (back.0 ≡ e)) }
+        ensures err { IfErr result (λ back. (self.new.elements ≡ self.old.elements)
+            × (back.0 ≡ e)) }
         ensures known { IsSome (element_of self.old.elements e.id) → IsOk result }
         ensures room { 0 < self.old.spare → IsOk result }
         ensures spare { self.old.spare ≤ self.new.spare + 1 }
@@ -155,8 +158,10 @@ impl Store {
     pub fn given(&self) -> &[Element]
         ensures exact { result.now ≡ self.now.given }
         ensures ordered { are_rising (ids_of self.now.elements) ≡ true }
-        ensures stored { (e : ElementValue) → Contains self.now.given e → Contains self.now.elements e }
-        ensures all { (e : ElementValue) → Contains self.now.elements e → Contains self.now.given e }
+        ensures stored { (e : ElementValue) → Contains self.now.given e
+            → Contains self.now.elements e }
+        ensures all { (e : ElementValue) → Contains self.now.elements e
+            → Contains self.now.given e }
     {
         self.elements.as_slice()
     }
@@ -172,15 +177,16 @@ impl Store {
         elements.into_vec()
     }
 
-    /// The stored elements at these indices, in the order of the indices, moved out; the others are dropped. No index
-    /// comes twice. Fails only for want of memory.
+    /// The stored elements at these indices, in the order of the indices, moved out; the others
+    /// are dropped. No index comes twice. Fails only for want of memory.
     pub fn into_elements_at(
         self,
         alloc: Global,
         indices: &[usize],
     ) -> Result<Vec<Element>, AllocError>
         requires { AllPairs (λ i j. i ≢ j) indices.now }
-        ensures { IfOk result (λ moved. moved.items ≡ filter_map (slice_get self.elements) indices.now) }
+        ensures { IfOk result (λ moved. moved.items
+            ≡ filter_map (slice_get self.elements) indices.now) }
     {
         let Store { elements, places } = self;
         moved_out(alloc, elements, &places, indices)

@@ -26,11 +26,13 @@ apart-below q id other own less = elim (cases_Bool (bytes_eq q id)) [
       absurd (false≢true (sym (bytes_less-same id) ∙ subst (λ o. bytes_less o id ≡ true) one less))
 ]
 
-value-with_member : (q : List ℕ) (file : Pair) (files : List Pair) → value_at q (with_member file files) ≡ cond (bytes_eq q file.0) (Some file.1) (value_at q files)
+value-with_member : (q : List ℕ) (file : Pair) (files : List Pair)
+    → value_at q (with_member file files) ≡ cond (bytes_eq q file.0) (Some file.1) (value_at q files)
 value-with_member q file [] = refl
 value-with_member q file (other ∷ files) =
     elim (bytes_less other.0 file.0) as (λ b. bytes_less other.0 file.0 ≡ b
-    → value_at q (if b then other ∷ with_member file files else file ∷ other ∷ files) ≡ cond (bytes_eq q file.0) (Some file.1) (value_at q (other ∷ files))) [
+    → value_at q (if b then other ∷ with_member file files else file ∷ other ∷ files)
+    ≡ cond (bytes_eq q file.0) (Some file.1) (value_at q (other ∷ files))) [
       | false ↦ λ _. refl
       | true ↦ λ less. elim (cases_Bool (bytes_eq q other.0)) [
         | inl own ↦ rw (own, apart-below q file.0 other.0 own less) refl
@@ -44,7 +46,8 @@ value-by_id q (file ∷ files) =
     value-with_member q file (sorted_members files) ∙ ap (cond (bytes_eq q file.0) (Some file.1)) (value-by_id q files)
 
 -- ---- ids that rise
-below : (id : List ℕ) (files : List Pair) → AllByRecursion (λ (file : Pair). bytes_less id file.0 ≡ true) files → IsBelow id files
+below : (id : List ℕ) (files : List Pair) → AllByRecursion (λ (file : Pair). bytes_less id file.0 ≡ true) files
+    → IsBelow id files
 below id [] all = tt
 below id (file ∷ files) all = (less_is (slice_cmp nat_cmp id file.0) all.0, below id files all.1)
 
@@ -56,7 +59,8 @@ pub risen : (files : List Pair) → HaveRisingNames files → IsRising files
 risen [] is = tt
 risen (file ∷ files) is =
     let parts = rising_parts file files is in (
-      AllByRecursion-weaker _ _ files (λ other less. ap is_lt less) (AllByRecursion-map (λ (other : Pair). other.0) (λ name. slice_cmp nat_cmp file.0 name ≡ Less) files parts.0),
+      AllByRecursion-weaker _ _ files (λ other less. ap is_lt less)
+          (AllByRecursion-map (λ (other : Pair). other.0) (λ name. slice_cmp nat_cmp file.0 name ≡ Less) files parts.0),
       risen files parts.1,
     )
 
@@ -64,7 +68,8 @@ pub rising-by_id : (files : List Pair) → IsDistinct bytes_eq (names_of files) 
 rising-by_id files distinct = rising (sorted_members files) (IsRising-sorted files distinct)
 
 -- files that were moved so that their ids rise
-pub moved-by_id : (files others : List Pair) → IsDistinct bytes_eq (names_of files) → IsPermutation files others → HaveRisingNames others → others ≡ sorted_members files
+pub moved-by_id : (files others : List Pair) → IsDistinct bytes_eq (names_of files) → IsPermutation files others
+    → HaveRisingNames others → others ≡ sorted_members files
 moved-by_id files others distinct moved rise =
     same_rising others (sorted_members files) (risen others rise) (IsRising-sorted files distinct)
     (IsPermutation-trans _ files _ (IsPermutation-sym _ _ moved) (IsPermutation-sorted files))

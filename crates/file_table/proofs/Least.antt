@@ -13,12 +13,16 @@ use Rattle.file_table.specs.Table.{lesser, lesser_of, least_entry, IsLeast, AreL
 use Rattle.file_table.proofs.Lesser.{less_order, less_itself, same_bytes, lesser_either, lesser_of-either}
 
 -- ---- of two lists joined end to end
-pub least-append : (given others : List Pair) (id : List ℕ) → least_entry (given ++ others) id ≡ lesser_either (least_entry given id) (least_entry others id)
+pub least-append : (given others : List Pair) (id : List ℕ)
+    → least_entry (given ++ others) id ≡ lesser_either (least_entry given id) (least_entry others id)
 least-append [] others id = refl
 least-append (file ∷ given) others id =
-    elim (bytes_eq id file.0) as (λ b. cond b (Some (lesser_of file.1 (least_entry (given ++ others) id))) (least_entry (given ++ others) id)
-    ≡ lesser_either (cond b (Some (lesser_of file.1 (least_entry given id))) (least_entry given id)) (least_entry others id)) [
-      | true ↦ ap (λ o. Some (lesser_of file.1 o)) (least-append given others id) ∙ ap Some (lesser_of-either file.1 (least_entry given id) (least_entry others id))
+    elim (bytes_eq id file.0) as (λ b. cond b (Some (lesser_of file.1 (least_entry (given ++ others) id)))
+    (least_entry (given ++ others) id)
+    ≡ lesser_either (cond b (Some (lesser_of file.1 (least_entry given id))) (least_entry given id))
+    (least_entry others id)) [
+      | true ↦ ap (λ o. Some (lesser_of file.1 o)) (least-append given others id)
+          ∙ ap Some (lesser_of-either file.1 (least_entry given id) (least_entry others id))
       | false ↦ least-append given others id
     ]
 
@@ -26,18 +30,21 @@ least-append (file ∷ given) others id =
 same_text : (a b : List ℕ) → bytes_eq a b ≡ true → a ≡ b
 same_text a b h = (bytes_eq-Decides a b).0 h
 
-absent : (id : List ℕ) (files : List Pair) → AllByRecursion (λ other. bytes_eq id other ≡ false) (names_of files) → value_at id files ≡ None
+absent : (id : List ℕ) (files : List Pair) → AllByRecursion (λ other. bytes_eq id other ≡ false) (names_of files)
+    → value_at id files ≡ None
 absent id [] h = refl
 absent id (file ∷ files) h = cond-false (bytes_eq id file.0) (Some file.1) (value_at id files) h.0 ∙ absent id files h.1
 
-pub least-distinct : (files : List Pair) (id : List ℕ) → IsDistinct bytes_eq (names_of files) → least_entry files id ≡ value_at id files
+pub least-distinct : (files : List Pair) (id : List ℕ) → IsDistinct bytes_eq (names_of files)
+    → least_entry files id ≡ value_at id files
 unfolding IsDistinct
 least-distinct [] id h = refl
 least-distinct (file ∷ files) id h =
     let rest = least_entry files id in
     elim (cases_Bool (bytes_eq id file.0)) [
       | inl t ↦ cond-true (bytes_eq id file.0) (Some (lesser_of file.1 rest)) rest t
-          ∙ ap (λ o. Some (lesser_of file.1 o)) (least-distinct files id h.1 ∙ ap (λ i. value_at i files) (same_text id file.0 t) ∙ absent file.0 files h.0)
+          ∙ ap (λ o. Some (lesser_of file.1 o)) (least-distinct files id h.1
+          ∙ ap (λ i. value_at i files) (same_text id file.0 t) ∙ absent file.0 files h.0)
           ∙ sym (cond-true (bytes_eq id file.0) (Some file.1) (value_at id files) t)
       | inr f ↦ cond-false (bytes_eq id file.0) (Some (lesser_of file.1 rest)) rest f ∙ least-distinct files id h.1
           ∙ sym (cond-false (bytes_eq id file.0) (Some file.1) (value_at id files) f)
@@ -47,13 +54,16 @@ pub least-own : (files : List Pair) (id : List ℕ) → HaveRisingNames files �
 least-own files id rising = least-distinct files id (rising_distinct files rising)
 
 -- ---- it is the least
-here : (file : Pair) (files : List Pair) (id entry : List ℕ) → file.0 ≡ id → file.1 ≡ entry → Contains (file ∷ files) (id, entry)
-here file files id entry p q = subst (Contains (file ∷ files)) (λ i. (p i, q i)) (Contains-append_left (file ∷ []) files file (Contains-push [] file))
+here : (file : Pair) (files : List Pair) (id entry : List ℕ) → file.0 ≡ id → file.1 ≡ entry
+    → Contains (file ∷ files) (id, entry)
+here file files id entry p q = subst (Contains (file ∷ files)) (λ i. (p i, q i))
+    (Contains-append_left (file ∷ []) files file (Contains-push [] file))
 
 there : (file : Pair) (files : List Pair) (other : Pair) → Contains files other → Contains (file ∷ files) other
 there file files other c = Contains-append_right (file ∷ []) files other c
 
-which : (file : Pair) (files : List Pair) (other : Pair) → Contains (file ∷ files) other → (file ≡ other) ⊎ Contains files other
+which : (file : Pair) (files : List Pair) (other : Pair) → Contains (file ∷ files) other → (file ≡ other)
+    ⊎ Contains files other
 which file files other c =
     elim (Contains-append_cases (file ∷ []) files other c) [
       | inl first ↦ elim (Contains-push_cases [] file other first) [
@@ -70,12 +80,17 @@ least-among : (given : List Pair) (id entry : List ℕ) → least_entry given id
 least-among [] id entry h = absurd (cc)
 least-among (file ∷ given) id entry h =
     elim (cases_Bool (bytes_eq id file.0)) [
-      | inl t ↦ first (least-among given id entry) t (least_entry given id) refl (sym (cond-true (bytes_eq id file.0) (Some (lesser_of file.1 (least_entry given id))) (least_entry given id) t) ∙ h)
+      | inl t ↦ first (least-among given id entry) t (least_entry given id) refl
+          (sym (cond-true (bytes_eq id file.0) (Some (lesser_of file.1 (least_entry given id))) (least_entry given id)
+          t) ∙ h)
       | inr f ↦ there file given (id, entry) (least-among given id entry
-          (sym (cond-false (bytes_eq id file.0) (Some (lesser_of file.1 (least_entry given id))) (least_entry given id) f) ∙ h))
+          (sym (cond-false (bytes_eq id file.0) (Some (lesser_of file.1 (least_entry given id))) (least_entry given id)
+          f) ∙ h))
     ]
   where
-    first : (least_entry given id ≡ Some entry → Contains given (id, entry)) → bytes_eq id file.0 ≡ true → (o : Option (List ℕ)) → least_entry given id ≡ o → Some (lesser_of file.1 o) ≡ Some entry → Contains (file ∷ given) (id, entry)
+    first : (least_entry given id ≡ Some entry → Contains given (id, entry)) → bytes_eq id file.0 ≡ true
+        → (o : Option (List ℕ)) → least_entry given id ≡ o → Some (lesser_of file.1 o) ≡ Some entry
+        → Contains (file ∷ given) (id, entry)
     first later t None is e = here file given id entry (sym (same_text id file.0 t)) (cc)
     first later t (Some x) is e =
         elim (cases_Bool (bytes_less x file.1)) [
@@ -86,7 +101,8 @@ least-among (file ∷ given) id entry h =
         ]
 
 -- no entry that was given for the id is less
-least-bound : (given : List Pair) (id entry : List ℕ) → Contains given (id, entry) → (found : List ℕ) × (least_entry given id ≡ Some found) × (bytes_less entry found ≡ false)
+least-bound : (given : List Pair) (id entry : List ℕ) → Contains given (id, entry) → (found : List ℕ)
+    × (least_entry given id ≡ Some found) × (bytes_less entry found ≡ false)
 least-bound [] id entry c = absurd (let l = c.1 in omega arith)
 least-bound (file ∷ given) id entry c =
     elim (which file given (id, entry) c) [
@@ -94,17 +110,24 @@ least-bound (file ∷ given) id entry c =
           let t : bytes_eq id file.0 ≡ true = (bytes_eq-Decides id file.0).1 (sym (ap (λ (p : Pair). p.0) same)) in (
             lesser_of file.1 (least_entry given id),
             cond-true (bytes_eq id file.0) (Some (lesser_of file.1 (least_entry given id))) (least_entry given id) t,
-            ap (λ e. bytes_less e (lesser_of file.1 (least_entry given id))) (sym (ap (λ (p : Pair). p.1) same)) ∙ not_below file.1 (least_entry given id),
+            ap (λ e. bytes_less e (lesser_of file.1 (least_entry given id))) (sym (ap (λ (p : Pair). p.1) same))
+                ∙ not_below file.1 (least_entry given id),
           )
       | inr later ↦
           let (found, is, bound) = least-bound given id entry later in
           elim (cases_Bool (bytes_eq id file.0)) [
             | inl t ↦ (
               lesser file.1 found,
-              cond-true (bytes_eq id file.0) (Some (lesser_of file.1 (least_entry given id))) (least_entry given id) t ∙ ap (λ o. Some (lesser_of file.1 o)) is,
+              cond-true (bytes_eq id file.0) (Some (lesser_of file.1 (least_entry given id))) (least_entry given id) t
+                  ∙ ap (λ o. Some (lesser_of file.1 o)) is,
               still file.1 found bound,
             )
-            | inr f ↦ (found, cond-false (bytes_eq id file.0) (Some (lesser_of file.1 (least_entry given id))) (least_entry given id) f ∙ is, bound)
+            | inr f ↦ (
+              found,
+              cond-false (bytes_eq id file.0) (Some (lesser_of file.1 (least_entry given id)))
+                  (least_entry given id) f ∙ is,
+              bound,
+            )
           ]
     ]
   where
@@ -120,7 +143,8 @@ least-bound (file ∷ given) id entry c =
     still first found bound =
         elim (cases_Bool (bytes_less found first)) [
           | inl l ↦ ap (bytes_less entry) (cond-true (bytes_less found first) found first l) ∙ bound
-          | inr g ↦ ap (bytes_less entry) (cond-false (bytes_less found first) found first g) ∙ less_order.chain entry found first bound g
+          | inr g ↦ ap (bytes_less entry) (cond-false (bytes_less found first) found first g)
+              ∙ less_order.chain entry found first bound g
         ]
 
 IsLeast-from : (given : List Pair) (id entry : List ℕ) → least_entry given id ≡ Some entry → IsLeast given id entry
@@ -141,34 +165,43 @@ pub least-is : (given : List Pair) (id entry : List ℕ) → (least_entry given 
 least-is given id entry = (IsLeast-from given id entry, least-from given id entry)
 
 -- ---- order and repeats
-IsLeast-moved : (given others : List Pair) (id entry : List ℕ) → ((file : Pair) → Contains given file ↔ Contains others file) → IsLeast given id entry → IsLeast others id entry
+IsLeast-moved : (given others : List Pair) (id entry : List ℕ)
+    → ((file : Pair) → Contains given file ↔ Contains others file) → IsLeast given id entry → IsLeast others id entry
 IsLeast-moved given others id entry same h = record {
   among = (same (id, entry)).0 h.among;
   least = λ other c. h.least other ((same (id, other)).1 c);
 }
 
-pub least-moved : (given others : List Pair) (id : List ℕ) → ((file : Pair) → Contains given file ↔ Contains others file) → least_entry given id ≡ least_entry others id
+pub least-moved : (given others : List Pair) (id : List ℕ)
+    → ((file : Pair) → Contains given file ↔ Contains others file) → least_entry given id ≡ least_entry others id
 least-moved given others id same = go (least_entry given id) (least_entry others id) refl refl
   where
     go : (o p : Option (List ℕ)) → least_entry given id ≡ o → least_entry others id ≡ p → o ≡ p
     go None None is as' = refl
     go None (Some e) is other =
-        sym is ∙ least-from given id e (IsLeast-moved others given id e (λ f. ((same f).1, (same f).0)) (IsLeast-from others id e other))
+        sym is
+        ∙ least-from given id e (IsLeast-moved others given id e (λ f. ((same f).1, (same f).0))
+        (IsLeast-from others id e other))
     go (Some e) p is other =
         sym (least-from others id e (IsLeast-moved given others id e same (IsLeast-from given id e is))) ∙ other
 
 -- ---- tables
-pub AreLeastEntries-unique : (given files others : List Pair) → AreLeastEntries given files → AreLeastEntries given others → files ≡ others
+pub AreLeastEntries-unique : (given files others : List Pair) → AreLeastEntries given files
+    → AreLeastEntries given others → files ≡ others
 AreLeastEntries-unique given files others h k =
     rising_same files others h.ordered k.ordered (λ id. h.each id ∙ sym (k.each id))
 
 pub AreLeastEntries-none : AreLeastEntries [] []
 AreLeastEntries-none = record { ordered = rising_none; each = λ id. refl }
 
-pub AreLeastEntries-moved : (given others files : List Pair) → ((file : Pair) → Contains given file ↔ Contains others file) → AreLeastEntries given files → AreLeastEntries others files
-AreLeastEntries-moved given others files same h = record { ordered = h.ordered; each = λ id. h.each id ∙ least-moved given others id same }
+pub AreLeastEntries-moved : (given others files : List Pair)
+    → ((file : Pair) → Contains given file ↔ Contains others file) → AreLeastEntries given files
+    → AreLeastEntries others files
+AreLeastEntries-moved given others files same h =
+    record { ordered = h.ordered; each = λ id. h.each id ∙ least-moved given others id same }
 
-pub AreLeastEntries-join : (given files others more all : List Pair) → AreLeastEntries given files → AreLeastEntries others more → AreLeastEntries (files ++ more) all → AreLeastEntries (given ++ others) all
+pub AreLeastEntries-join : (given files others more all : List Pair) → AreLeastEntries given files
+    → AreLeastEntries others more → AreLeastEntries (files ++ more) all → AreLeastEntries (given ++ others) all
 AreLeastEntries-join given files others more all h k m = record {
   ordered = m.ordered;
   each = λ id.

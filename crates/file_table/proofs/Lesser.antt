@@ -23,7 +23,8 @@ same_bytes a b h k = go (slice_cmp nat_cmp a b) refl
     go : (o : Ordering) → slice_cmp nat_cmp a b ≡ o → a ≡ b
     go Less is = absurd (both_ways (bytes_less a b) h (ap is_lt is))
     go Equal is = exact_bytes a b is
-    go Greater is = absurd (both_ways (bytes_less b a) k (ap is_lt (nat_list_cmp_total.antisymm b a ∙ ap ordering_reverse is)))
+    go Greater is =
+        absurd (both_ways (bytes_less b a) k (ap is_lt (nat_list_cmp_total.antisymm b a ∙ ap ordering_reverse is)))
 
 lesser-assoc : (e x y : List ℕ) → lesser e (lesser x y) ≡ lesser (lesser e x) y
 lesser-assoc e x y = go (bytes_less y x) (bytes_less x e) refl refl
@@ -35,14 +36,16 @@ lesser-assoc e x y = go (bytes_less y x) (bytes_less x e) refl refl
         cond-true (bytes_less y e) y e below ∙ sym (cond-true (bytes_less y x) y x h)
     go true false h k = refl
     go false true h k = cond-true (bytes_less x e) x e k ∙ sym (cond-false (bytes_less y x) y x h)
-    go false false h k = cond-false (bytes_less x e) x e k ∙ sym (cond-false (bytes_less y e) y e (less_order.chain y x e h k))
+    go false false h k =
+        cond-false (bytes_less x e) x e k ∙ sym (cond-false (bytes_less y e) y e (less_order.chain y x e h k))
 
 -- the entry of the one list, or a lesser one of the other
 abbrev pub lesser_either : Option (List ℕ) → Option (List ℕ) → Option (List ℕ)
 lesser_either None o = o
 lesser_either (Some e) o = Some (lesser_of e o)
 
-pub lesser_of-either : (e : List ℕ) (o p : Option (List ℕ)) → lesser_of e (lesser_either o p) ≡ lesser_of (lesser_of e o) p
+pub lesser_of-either : (e : List ℕ) (o p : Option (List ℕ))
+    → lesser_of e (lesser_either o p) ≡ lesser_of (lesser_of e o) p
 lesser_of-either e None p = refl
 lesser_of-either e (Some x) None = refl
 lesser_of-either e (Some x) (Some y) = lesser-assoc e x y

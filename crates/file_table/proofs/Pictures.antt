@@ -13,13 +13,16 @@ IfOk-weaker (Err e) P Q f h = tt
 abbrev pub HasSize : List ℕ → ℕ → Type 0
 HasSize content size = (bytes : List ℕ) × (decode_of standard content ≡ Ok bytes) × (size ≡ length bytes)
 
-module _ (entry url content : List ℕ) (one : (other : List ℕ) → HasUrl entry other → other ≡ url) (is : IsDataUrl url content) where
+module _ (entry url content : List ℕ) (one : (other : List ℕ) → HasUrl entry other
+    → other ≡ url) (is : IsDataUrl url content) where
   same_content : (other : List ℕ) → HasData entry other → other ≡ content
-  same_content other h = content-unique url other content (subst (λ u. IsDataUrl u other) (one h.url h.has_url) h.is_data_url) is
+  same_content other h =
+      content-unique url other content (subst (λ u. IsDataUrl u other) (one h.url h.has_url) h.is_data_url) is
 
   pub size-only : (size : ℕ) → HasSize content size → (other : ℕ) → IsPictureSize entry other → other ≡ size
   size-only size (bytes, decoded, counted) other h =
-      let both : Ok h.bytes ≡ Ok bytes = sym h.decoded ∙ ap (decode_of standard) (same_content h.text h.has_data) ∙ decoded in
+      let both : Ok h.bytes ≡ Ok bytes =
+      sym h.decoded ∙ ap (decode_of standard) (same_content h.text h.has_data) ∙ decoded in
       let same : h.bytes ≡ bytes = cc in
       h.size_is ∙ ap length same ∙ sym counted
 

@@ -17,9 +17,11 @@ use Rattle.file_table.proofs.Lesser.{lesser_either, lesser_either-none}
 use Rattle.file_table.proofs.Least.{least-append, least-own}
 
 -- what the table and the one entry have for an id
-least-one : (old : List Pair) (id entry : List ℕ) (q : List ℕ) → HaveRisingNames old → least_entry (old ++ (id, entry) ∷ []) q ≡ lesser_either (value_at q old) (cond (bytes_eq q id) (Some entry) None)
+least-one : (old : List Pair) (id entry : List ℕ) (q : List ℕ) → HaveRisingNames old
+    → least_entry (old ++ (id, entry) ∷ []) q ≡ lesser_either (value_at q old) (cond (bytes_eq q id) (Some entry) None)
 least-one old id entry q rising =
-    least-append old ((id, entry) ∷ []) q ∙ ap (λ o. lesser_either o (cond (bytes_eq q id) (Some entry) None)) (least-own old q rising)
+    least-append old ((id, entry) ∷ []) q
+    ∙ ap (λ o. lesser_either o (cond (bytes_eq q id) (Some entry) None)) (least-own old q rising)
 
 same_id : (q id : List ℕ) → bytes_eq q id ≡ true → q ≡ id
 same_id q id h = (bytes_eq-Decides q id).0 h
@@ -32,11 +34,15 @@ kept : (entry : List ℕ) (o : Option (List ℕ)) → takes_place o entry ≡ fa
 kept entry None h = absurd (both_ways true h refl)
 kept entry (Some old) h = ap Some (cond-false (bytes_less entry old) entry old h)
 
-AreLeastEntries-taken : (old new : List Pair) (id entry : List ℕ) → HaveRisingNames old → HaveRisingNames new → takes_place (value_at id old) entry ≡ true
-    → ((q : List ℕ) → value_at q new ≡ cond (bytes_eq q id) (Some entry) (value_at q old)) → AreLeastEntries (old ++ (id, entry) ∷ []) new
-AreLeastEntries-taken old new id entry rising still takes each = record { ordered = still; each = λ q. go q (cases_Bool (bytes_eq q id)) }
+AreLeastEntries-taken : (old new : List Pair) (id entry : List ℕ) → HaveRisingNames old → HaveRisingNames new
+    → takes_place (value_at id old) entry ≡ true
+    → ((q : List ℕ) → value_at q new ≡ cond (bytes_eq q id) (Some entry) (value_at q old))
+    → AreLeastEntries (old ++ (id, entry) ∷ []) new
+AreLeastEntries-taken old new id entry rising still takes each =
+    record { ordered = still; each = λ q. go q (cases_Bool (bytes_eq q id)) }
   where
-    go : (q : List ℕ) → (bytes_eq q id ≡ true) ⊎ (bytes_eq q id ≡ false) → value_at q new ≡ least_entry (old ++ (id, entry) ∷ []) q
+    go : (q : List ℕ) → (bytes_eq q id ≡ true) ⊎ (bytes_eq q id ≡ false)
+        → value_at q new ≡ least_entry (old ++ (id, entry) ∷ []) q
     go q (inl t) =
         each q ∙ cond-true (bytes_eq q id) (Some entry) (value_at q old) t
         ∙ sym (taken entry (value_at id old) takes)
@@ -49,10 +55,13 @@ AreLeastEntries-taken old new id entry rising still takes each = record { ordere
         ∙ ap (lesser_either (value_at q old)) (sym (cond-false (bytes_eq q id) (Some entry) None f))
         ∙ sym (least-one old id entry q rising)
 
-AreLeastEntries-kept : (old : List Pair) (id entry : List ℕ) → HaveRisingNames old → takes_place (value_at id old) entry ≡ false → AreLeastEntries (old ++ (id, entry) ∷ []) old
-AreLeastEntries-kept old id entry rising stays = record { ordered = rising; each = λ q. go q (cases_Bool (bytes_eq q id)) }
+AreLeastEntries-kept : (old : List Pair) (id entry : List ℕ) → HaveRisingNames old
+    → takes_place (value_at id old) entry ≡ false → AreLeastEntries (old ++ (id, entry) ∷ []) old
+AreLeastEntries-kept old id entry rising stays =
+    record { ordered = rising; each = λ q. go q (cases_Bool (bytes_eq q id)) }
   where
-    go : (q : List ℕ) → (bytes_eq q id ≡ true) ⊎ (bytes_eq q id ≡ false) → value_at q old ≡ least_entry (old ++ (id, entry) ∷ []) q
+    go : (q : List ℕ) → (bytes_eq q id ≡ true) ⊎ (bytes_eq q id ≡ false)
+        → value_at q old ≡ least_entry (old ++ (id, entry) ∷ []) q
     go q (inl t) =
         ap (λ i. value_at i old) (same_id q id t)
         ∙ sym (kept entry (value_at id old) stays)
@@ -64,28 +73,37 @@ AreLeastEntries-kept old id entry rising stays = record { ordered = rising; each
         ∙ ap (lesser_either (value_at q old)) (sym (cond-false (bytes_eq q id) (Some entry) None f))
         ∙ sym (least-one old id entry q rising)
 
-EntriesNest-insert : (limit : ℕ) (files : List Pair) (id entry : List ℕ) → EntriesNest limit files → IsCompact limit entry → EntriesNest limit (insert_entry bytes_eq files id entry)
+EntriesNest-insert : (limit : ℕ) (files : List Pair) (id entry : List ℕ) → EntriesNest limit files
+    → IsCompact limit entry → EntriesNest limit (insert_entry bytes_eq files id entry)
 EntriesNest-insert limit [] id entry nest h = (h, tt)
 EntriesNest-insert limit (file ∷ files) id entry nest h =
-    elim (bytes_eq id file.0) as (λ b. EntriesNest limit (if b then (file.0, entry) ∷ files else file ∷ insert_entry bytes_eq files id entry)) [
+    elim (bytes_eq id file.0) as (λ b. EntriesNest limit (if b then (file.0, entry) ∷ files else file
+    ∷ insert_entry bytes_eq files id entry)) [
       | true ↦ (h, nest.1)
       | false ↦ (nest.0, EntriesNest-insert limit files id entry nest.1 h)
     ]
 
-pub HaveFiles-insert : (old new : List Pair) (id entry : List ℕ) → HaveFiles old → IsCompact 126 entry → new ≡ insert_entry bytes_eq old id entry → IsDistinct bytes_eq (names_of new) → HaveFiles new
+pub HaveFiles-insert : (old new : List Pair) (id entry : List ℕ) → HaveFiles old → IsCompact 126 entry
+    → new ≡ insert_entry bytes_eq old id entry → IsDistinct bytes_eq (names_of new) → HaveFiles new
 HaveFiles-insert old new id entry has h is distinct = record {
   distinct = distinct;
   nest = subst (EntriesNest 126) (sym is) (EntriesNest-insert 126 old id entry has.nest h);
 }
 
 -- ---- entries in whatever order
-pub by_id-taken : (old new : List Pair) (id entry : List ℕ) → HaveFiles old → HaveFiles new → takes_place (value_at id old) entry ≡ true
-    → ((q : List ℕ) → value_at q new ≡ cond (bytes_eq id q) (Some entry) (value_at q old)) → AreLeastEntries (sorted_members old ++ (id, entry) ∷ []) (sorted_members new)
+pub by_id-taken : (old new : List Pair) (id entry : List ℕ) → HaveFiles old → HaveFiles new
+    → takes_place (value_at id old) entry ≡ true
+    → ((q : List ℕ) → value_at q new ≡ cond (bytes_eq id q) (Some entry) (value_at q old))
+    → AreLeastEntries (sorted_members old ++ (id, entry) ∷ []) (sorted_members new)
 by_id-taken old new id entry has gets takes each =
-    AreLeastEntries-taken (sorted_members old) (sorted_members new) id entry (rising-by_id old has.distinct) (rising-by_id new gets.distinct)
+    AreLeastEntries-taken (sorted_members old) (sorted_members new) id entry (rising-by_id old has.distinct)
+    (rising-by_id new gets.distinct)
     (ap (λ o. takes_place o entry) (value-by_id id old) ∙ takes)
-    (λ q. value-by_id q new ∙ each q ∙ ap (λ b. cond b (Some entry) (value_at q old)) (nat_list_eq_equiv.symm id q) ∙ ap (cond (bytes_eq q id) (Some entry)) (sym (value-by_id q old)))
+    (λ q. value-by_id q new ∙ each q ∙ ap (λ b. cond b (Some entry) (value_at q old)) (nat_list_eq_equiv.symm id q)
+    ∙ ap (cond (bytes_eq q id) (Some entry)) (sym (value-by_id q old)))
 
-pub by_id-kept : (old : List Pair) (id entry : List ℕ) → HaveFiles old → takes_place (value_at id old) entry ≡ false → AreLeastEntries (sorted_members old ++ (id, entry) ∷ []) (sorted_members old)
+pub by_id-kept : (old : List Pair) (id entry : List ℕ) → HaveFiles old → takes_place (value_at id old) entry ≡ false
+    → AreLeastEntries (sorted_members old ++ (id, entry) ∷ []) (sorted_members old)
 by_id-kept old id entry has stays =
-    AreLeastEntries-kept (sorted_members old) id entry (rising-by_id old has.distinct) (ap (λ o. takes_place o entry) (value-by_id id old) ∙ stays)
+    AreLeastEntries-kept (sorted_members old) id entry (rising-by_id old has.distinct)
+    (ap (λ o. takes_place o entry) (value-by_id id old) ∙ stays)

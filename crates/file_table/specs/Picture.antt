@@ -1,4 +1,5 @@
--- How large the picture of a file is. RFC 2397 and RFC 4648; the form of the URL is the one that Excalidraw writes.
+-- How large the picture of a file is. RFC 2397 and RFC 4648; the form of the URL is the one that
+-- Excalidraw writes.
 use Rattle.std.specs.Prelude.{◌≡◌, ℕ, List, ◌∷◌, ◌++◌, false, ◌==◌, Some, Ok, length, codes}
 use Rattle.std.specs.List.{list_any}
 use Rattle.std.specs.Str.{IsUtf8}
@@ -9,7 +10,8 @@ use Rattle.json_text.specs.Compact.{Member as Pair, object_text}
 use Rattle.json_text.specs.Parts.{AreMembers}
 use Rattle.scene_json.specs.Named.{value_at}
 
--- The text is a data URL in base64 with this data: `data:`, a media type without a comma, `;base64`, a comma, the data.
+-- The text is a data URL in base64 with this data: `data:`, a media type without a comma,
+-- `;base64`, a comma, the data.
 pub record IsDataUrl (url content : List ℕ) : Type 0 where
   pub media : List ℕ
   pub parts : url ≡ codes "data:" ++ (media ++ (codes ";base64" ++ 44 ∷ content))

@@ -1,5 +1,5 @@
--- Tables of files: for each id an entry, which is a compact text. That the least of several entries counts is this
--- project's own.
+-- Tables of files: for each id an entry, which is a compact text. That the least of several entries
+-- counts is this project's own.
 use Rattle.std.specs.Prelude.{◌≡◌, ℕ, List, [], ◌∷◌, Bool, true, false, Option, Some, None, Contains, bytes_eq, if◌then◌else◌}
 use Rattle.std.specs.List.{AllByRecursion, IsDistinct}
 use Rattle.json_text.specs.Compact.{Member as Pair}
@@ -21,7 +21,8 @@ lesser_of entry (Some other) = lesser entry other
 abbrev pub least_entry : List Pair → List ℕ → Option (List ℕ)
 least_entry [] id = None
 least_entry (file ∷ files) id =
-    if bytes_eq id file.0 then Some (lesser_of file.1 (least_entry files id)) else least_entry files id
+    if bytes_eq id file.0 then Some (lesser_of file.1 (least_entry files id)) else least_entry files
+    id
 
 -- whether an entry takes the place of the one that there is: there is none, or a greater one
 abbrev pub takes_place : Option (List ℕ) → List ℕ → Bool
@@ -33,7 +34,8 @@ pub record IsLeast (given : List Pair) (id entry : List ℕ) : Type 0 where
   pub among : Contains given (id, entry)
   pub least : (other : List ℕ) → Contains given (id, other) → bytes_less other entry ≡ false
 
--- These are the files of the entries that were given: of each id the least, in the order of the ids.
+-- These are the files of the entries that were given: of each id the least, in the order of the
+-- ids.
 pub record AreLeastEntries (given files : List Pair) : Type 0 where
   pub ordered : HaveRisingNames files
   pub each : (id : List ℕ) → value_at id files ≡ least_entry given id

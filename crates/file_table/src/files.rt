@@ -50,8 +50,8 @@ impl Files {
         }
     }
 
-    /// Adds the entry of a file, or keeps the lesser one, by the bytes of their compact texts, where the id has one.
-    /// For want of memory it is unchanged.
+    /// Adds the entry of a file, or keeps the lesser one, by the bytes of their compact texts,
+    /// where the id has one. For want of memory it is unchanged.
     pub fn take(&mut self, id: Text, entry: Raw) -> Result<(), AllocError>
         requires { IsCompact 126 entry }
         ensures taken { OnOk result (AreLeastEntries (self.old ++ (id, entry) ∷ []) self.new) }
@@ -60,7 +60,8 @@ impl Files {
         keep_lesser(&mut self.entries, id, entry)
     }
 
-    /// The entries that image elements of the list name, each once, in the order in which they are first named.
+    /// The entries that image elements of the list name, each once, in the order in which they are
+    /// first named.
     pub fn referred(&self, list: &[Element]) -> Result<List<Member>, AllocError>
         ensures exact { IfOk result (λ members. pairs members ≡ referred_files self.now list.now) }
         ensures distinct { IfOk result (λ members. IsDistinct bytes_eq (names_of (pairs members))) }

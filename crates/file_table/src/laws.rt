@@ -14,7 +14,8 @@ ghost use Rattle.file_table.specs.Table.{least_entry, IsLeast, AreLeastEntries};
 
 /// The least entry of an id is one that was given for it, and none of these is less.
 pub fn least_entry_is_least()
-    ensures { (given : List Pair) (id entry : List ℕ) → (least_entry given id ≡ Some entry) ↔ IsLeast given id entry }
+    ensures { (given : List Pair) (id entry : List ℕ) → (least_entry given id ≡ Some entry)
+        ↔ IsLeast given id entry }
 {}
 
 /// The entries that were given have one table of files, and no entry has an empty one.
@@ -31,11 +32,12 @@ pub fn order_of_entries_plays_no_part()
         → AreLeastEntries others files }
 {}
 
-/// Their grouping doesn't count: the files of two tables are those of all that was given for both, and a table is its
-/// own.
+/// Their grouping doesn't count: the files of two tables are those of all that was given for both,
+/// and a table is its own.
 pub fn files_join()
     ensures joined { (given files others more all : List Pair)
-        → AreLeastEntries given files → AreLeastEntries others more → AreLeastEntries (files ++ more) all
+        → AreLeastEntries given files → AreLeastEntries others more
+        → AreLeastEntries (files ++ more) all
         → AreLeastEntries (given ++ others) all }
     ensures own { (files : List Pair) → HaveRisingNames files → AreLeastEntries files files }
 {}
@@ -45,13 +47,14 @@ pub fn files_exist()
     ensures { (given : List Pair) → (files : List Pair) × AreLeastEntries given files }
 {}
 
-/// A file is referred exactly if an element names it, as images alone do, and the table has it; and then with the entry
-/// of the table, in the order in which they are first named.
+/// A file is referred exactly if an element names it, as images alone do, and the table has it; and
+/// then with the entry of the table, in the order in which they are first named.
 pub fn referred_files_are_named()
     ensures exact { (files : List Pair) (elements : List ElementValue) (id : List ℕ)
         → value_at id (referred_files files elements)
         ≡ (if list_any (bytes_eq id) (references elements) then value_at id files else None) }
-    ensures order { (files : List Pair) (elements : List ElementValue) → names_of (referred_files files elements)
+    ensures order { (files : List Pair) (elements : List ElementValue)
+        → names_of (referred_files files elements)
         ≡ filter (λ id. is_some (value_at id files)) (first_texts (references elements)) }
 {}
 
@@ -59,6 +62,7 @@ pub fn referred_files_are_named()
 pub fn picture_is_decided()
     ensures { (entry : List ℕ) → IsCompact 128 entry
         → ((size : ℕ) × IsPictureSize entry size)
-        ⊎ (((content : List ℕ) × HasData entry content × ((size : ℕ) → IsPictureSize entry size → ⊥))
+        ⊎ (((content : List ℕ) × HasData entry content
+        × ((size : ℕ) → IsPictureSize entry size → ⊥))
         ⊎ ((content : List ℕ) → HasData entry content → ⊥)) }
 {}

@@ -17,8 +17,8 @@ use std::alloc::{AllocError, Global};
 /// Why a file's entry has no picture whose size can be told.
 #[derive(Clone, Copy, Debug, PartialEq, Eq)]
 pub enum PictureFault {
-    /// It is no object whose `dataURL` is a text that begins with `data:`, has a comma, and has `;base64` directly
-    /// before the first comma.
+    /// It is no object whose `dataURL` is a text that begins with `data:`, has a comma, and has
+    /// `;base64` directly before the first comma.
     NoDataUrl,
     /// What follows that comma isn't padded base64.
     Base64,
@@ -27,10 +27,12 @@ pub enum PictureFault {
 /// How many bytes the picture of a file's entry has, as the base64 text in its data URL tells.
 pub fn picture_size(alloc: Global, entry: &Raw) -> Result<u64, Stop<PictureFault>>
     ensures size { IfOk result (IsPictureSize entry.now) }
-    ensures only { IfOk result (λ size. (other : ℕ) → IsPictureSize entry.now other → other ≡ size) }
+    ensures only { IfOk result (λ size. (other : ℕ) → IsPictureSize entry.now other
+        → other ≡ size) }
     ensures no_data_url { result ≡ Err (Stop.Fault PictureFault.NoDataUrl)
         → (content : Items ℕ) → HasData entry.now content → ⊥ }
-    ensures base64 { result ≡ Err (Stop.Fault PictureFault.Base64) → (content : Items ℕ) × HasData entry.now content
+    ensures base64 { result ≡ Err (Stop.Fault PictureFault.Base64) → (content : Items ℕ)
+        × HasData entry.now content
         × ((size : ℕ) → IsPictureSize entry.now size → ⊥) }
 {
     let Some(url) = url_of(alloc, entry)? else {
@@ -44,7 +46,8 @@ pub fn picture_size(alloc: Global, entry: &Raw) -> Result<u64, Stop<PictureFault
 
 /// How many bytes a base64 text decodes to.
 fn decoded_size(alloc: Global, content: &[u8]) -> Result<u64, Stop<PictureFault>>
-    ensures size { IfOk result (λ size. (bytes : Items ℕ) × (decode_of standard content.now ≡ Ok bytes)
+    ensures size { IfOk result (λ size. (bytes : Items ℕ)
+        × (decode_of standard content.now ≡ Ok bytes)
         × (size ≡ length bytes)) }
     ensures never { result ≢ Err (Stop.Fault PictureFault.NoDataUrl) }
     ensures base64 { result ≡ Err (Stop.Fault PictureFault.Base64) → (bytes : Items ℕ)
@@ -79,7 +82,8 @@ fn content_of(url: &[u8]) -> Option<&[u8]>
 
 /// What follows `data:`, if the text begins with it.
 fn after_scheme(url: &[u8]) -> Option<&[u8]>
-    ensures { MatchOption result ((rest : Items ℕ) → url.now ≢ codes "data:" ++ rest) (λ rest. url.now ≡ codes "data:" ++ rest.now) }
+    ensures { MatchOption result ((rest : Items ℕ) → url.now ≢ codes "data:" ++ rest)
+        (λ rest. url.now ≡ codes "data:" ++ rest.now) }
 {
     url.strip_prefix(b"data:")
 }
@@ -87,7 +91,8 @@ fn after_scheme(url: &[u8]) -> Option<&[u8]>
 /// What stands before the first comma and behind it, if there is one.
 fn around_comma(text: &[u8]) -> Option<(&[u8], &[u8])>
     ensures { MatchOption result (list_any (λ byte. byte == 44) text.now ≡ false)
-        (λ parts. (text.now ≡ parts.0.now ++ 44 ∷ parts.1.now) × (list_any (λ byte. byte == 44) parts.0.now ≡ false)) }
+        (λ parts. (text.now ≡ parts.0.now ++ 44 ∷ parts.1.now)
+        × (list_any (λ byte. byte == 44) parts.0.now ≡ false)) }
 {
     for (i, byte) in text.iter().enumerate() {
         if *byte == b',' {

@@ -36,7 +36,8 @@ pub(crate) fn found(
     entries: &Entries,
     ids: Vec<Text>,
 ) -> Result<Vec<Member>, AllocError>
-    ensures { IfOk result (λ members. pairs members.items ≡ filter_map (file_of entries.now.entries) ids.items) }
+    ensures { IfOk result (λ members. pairs members.items
+        ≡ filter_map (file_of entries.now.entries) ids.items) }
 {
     let mut members = Vec::new(alloc);
     for id in ids {

@@ -15,7 +15,8 @@ use std::hash::{BuildHasherDefault, DefaultHasher};
 /// Entries by their ids, in the order in which these came.
 pub(crate) type Entries = IndexMap<Text, Raw, BuildHasherDefault<DefaultHasher>>;
 
-/// Adds an entry, or keeps the lesser one where the id has one. For want of memory nothing is changed.
+/// Adds an entry, or keeps the lesser one where the id has one. For want of memory nothing is
+/// changed.
 pub(crate) fn keep_lesser(entries: &mut Entries, id: Text, entry: Raw) -> Result<(), AllocError>
     requires nest { IsCompact 126 entry }
     requires table { HaveFiles entries.old.entries }

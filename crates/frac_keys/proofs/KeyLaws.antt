@@ -28,30 +28,39 @@ IsKey-from (head ∷ rest) h =
     let p3 = and_parts _ (not (ends_in_zero (drop (digit_count head) rest))) p4.0 in
     let p2 = and_parts _ (list_all is_key_digit rest) p3.0 in
     let p1 = and_parts (is_ascii_alphabetic head) (leb (digit_count head) (length rest)) p2.0 in
-    let split : take (digit_count head) rest ++ drop (digit_count head) rest ≡ rest = take-append-drop (digit_count head) rest in
+    let split : take (digit_count head) rest ++ drop (digit_count head) rest ≡ rest =
+    take-append-drop (digit_count head) rest in
     let digits = list_all-parts is_key_digit (digit_count head) rest p2.1 in
     record {
-      integer_is = integer p1.0 (length-take-le (digit_count head) rest (leb-true (digit_count head) (length rest) p1.1)) digits.0;
+      integer_is =
+          integer p1.0 (length-take-le (digit_count head) rest (leb-true (digit_count head) (length rest) p1.1))
+          digits.0;
       digits = digits.1;
       not_zero = not-true _ p3.1;
       joined = ap (λ t. head ∷ t) split;
-      other = λ e. absurd (let f = not-true (bytes_eq (head ∷ rest) smallest_integer) p4.1 in let t = (bytes_eq-Decides (head ∷ rest) smallest_integer).1 e in cc);
+      other = λ e. absurd (let f = not-true (bytes_eq (head ∷ rest) smallest_integer) p4.1 in let t =
+          (bytes_eq-Decides (head ∷ rest) smallest_integer).1 e in cc);
     }
 
-pub is_key-from : {i : List ℕ} → IsInteger i → (f : List ℕ) → list_all is_key_digit f ≡ true → ends_in_zero f ≡ false → (i ++ f ≡ smallest_integer → ⊥) → is_key (i ++ f) ≡ true
+pub is_key-from : {i : List ℕ} → IsInteger i → (f : List ℕ) → list_all is_key_digit f ≡ true → ends_in_zero f ≡ false
+    → (i ++ f ≡ smallest_integer → ⊥) → is_key (i ++ f) ≡ true
 unfolding is_key
 is_key-from (integer {h} {ds} a n d) f e z ne =
     let cut : drop (digit_count h) (ds ++ f) ≡ f = drop_at ds f (digit_count h) n in
     let long : digit_count h ≤ length (ds ++ f) = omega (arith, length-append ds f) in
-    let all : list_all is_key_digit (ds ++ f) ≡ true = list_all-append is_key_digit ds f ∙ and_from (list_all is_key_digit ds) (list_all is_key_digit f) d e in
-    let other : bytes_eq (h ∷ (ds ++ f)) smallest_integer ≡ false = false_from_ne_true _ (λ t. ne ((bytes_eq-Decides (h ∷ (ds ++ f)) smallest_integer).0 t)) in
-    and_from _ _ (and_from _ _ (and_from _ _ (and_from _ _ a (le-leb (digit_count h) (length (ds ++ f)) long)) all) (not_from_false _ (ap ends_in_zero cut ∙ z))) (not_from_false _ other)
+    let all : list_all is_key_digit (ds ++ f) ≡ true =
+    list_all-append is_key_digit ds f ∙ and_from (list_all is_key_digit ds) (list_all is_key_digit f) d e in
+    let other : bytes_eq (h ∷ (ds ++ f)) smallest_integer ≡ false =
+    false_from_ne_true _ (λ t. ne ((bytes_eq-Decides (h ∷ (ds ++ f)) smallest_integer).0 t)) in
+    and_from _ _ (and_from _ _ (and_from _ _ (and_from _ _ a (le-leb (digit_count h) (length (ds ++ f)) long)) all)
+    (not_from_false _ (ap ends_in_zero cut ∙ z))) (not_from_false _ other)
 
 -- an integer part, and digits behind it that don't end in `0`, are a key
 pub is_key-positive : {i : List ℕ} → IsInteger i → {f : List ℕ} → IsPositive f → is_key (i ++ f) ≡ true
 is_key-positive {i} n {f} p =
     is_key-from n f (IsPositive-digits p) (ends_in_zero-positive [] p)
-    (λ e. absurd (let t : ends_in_zero smallest_integer ≡ false = ap ends_in_zero (sym e) ∙ ends_in_zero-positive i p in cc))
+    (λ e. absurd (let t : ends_in_zero smallest_integer ≡ false = ap ends_in_zero (sym e) ∙ ends_in_zero-positive i p in
+    cc))
 
 -- an integer part alone is one, if it isn't the smallest
 pub is_key-integer : {i : List ℕ} → IsInteger i → (i ≡ smallest_integer → ⊥) → is_key i ≡ true
@@ -73,7 +82,8 @@ is_integer-from (integer {h} {ds} a n d) = and_from _ _ (and_from _ _ a (eq-eqb 
 nothing : IsInteger [] → ⊥
 nothing n = elim n [ ]
 
-cut : (head : ℕ) (rest : List ℕ) → IsKey (head ∷ rest) → is_ascii_alphabetic head ≡ true → digit_count head ≤ length rest → IsCut (head ∷ rest)
+cut : (head : ℕ) (rest : List ℕ) → IsKey (head ∷ rest) → is_ascii_alphabetic head ≡ true
+    → digit_count head ≤ length rest → IsCut (head ∷ rest)
 cut head rest p a long = record {
   some = omega arith;
   head = a;

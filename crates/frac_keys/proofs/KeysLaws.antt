@@ -10,26 +10,31 @@ use Rattle.frac_keys.proofs.OrderLaws.{IsLess-from, bytes_less-from, IsLess-tran
 use Rattle.frac_keys.proofs.BetweenLaws.{key_between-law}
 
 -- keys that rise to a key and keys that rise from it rise together
-pub rise_between-join : (a b : Option (List ℕ)) (xs : List (List ℕ)) (k : List ℕ) (ys : List (List ℕ)) → rise_between a (Some k) xs ≡ true → rise_between (Some k) b ys ≡ true → rise_between a b (xs ++ k ∷ ys) ≡ true
+pub rise_between-join : (a b : Option (List ℕ)) (xs : List (List ℕ)) (k : List ℕ) (ys : List (List ℕ))
+    → rise_between a (Some k) xs ≡ true → rise_between (Some k) b ys ≡ true → rise_between a b (xs ++ k ∷ ys) ≡ true
 rise_between-join a b [] k ys h l = and_from (ends_rise a (Some k)) (rise_between (Some k) b ys) h l
 rise_between-join a b (x ∷ xs) k ys h l =
     let p = and_parts (ends_rise a (Some x)) (rise_between (Some x) (Some k) xs) h in
-    and_from (ends_rise a (Some x)) (rise_between (Some x) b (xs ++ k ∷ ys)) p.0 (rise_between-join (Some x) b xs k ys p.1 l)
+    and_from (ends_rise a (Some x)) (rise_between (Some x) b (xs ++ k ∷ ys)) p.0
+    (rise_between-join (Some x) b xs k ys p.1 l)
 
-ends_rise-trans : (a : Option (List ℕ)) (k : List ℕ) (b : Option (List ℕ)) → ends_rise a (Some k) ≡ true → ends_rise (Some k) b ≡ true → ends_rise a b ≡ true
+ends_rise-trans : (a : Option (List ℕ)) (k : List ℕ) (b : Option (List ℕ)) → ends_rise a (Some k) ≡ true
+    → ends_rise (Some k) b ≡ true → ends_rise a b ≡ true
 ends_rise-trans None k b h l = refl
 ends_rise-trans (Some a) k None h l = refl
 ends_rise-trans (Some a) k (Some b) h l = bytes_less-from (IsLess-trans (IsLess-from a k h) (IsLess-from k b l))
 
 -- where keys rise from one end to another, so do the ends
-pub rise_between-ends : (a b : Option (List ℕ)) (keys : List (List ℕ)) → rise_between a b keys ≡ true → ends_rise a b ≡ true
+pub rise_between-ends : (a b : Option (List ℕ)) (keys : List (List ℕ)) → rise_between a b keys ≡ true
+    → ends_rise a b ≡ true
 rise_between-ends a b [] h = h
 rise_between-ends a b (k ∷ keys) h =
     let p = and_parts (ends_rise a (Some k)) (rise_between (Some k) b keys) h in
     ends_rise-trans a k b p.0 (rise_between-ends (Some k) b keys p.1)
 
 -- and each key lies between the ends
-wider : (a : Option (List ℕ)) (k : List ℕ) (b : Option (List ℕ)) (keys : List (List ℕ)) → ends_rise a (Some k) ≡ true → list_all (lies_between (Some k) b) keys ≡ true → list_all (lies_between a b) keys ≡ true
+wider : (a : Option (List ℕ)) (k : List ℕ) (b : Option (List ℕ)) (keys : List (List ℕ)) → ends_rise a (Some k) ≡ true
+    → list_all (lies_between (Some k) b) keys ≡ true → list_all (lies_between a b) keys ≡ true
 wider a k b [] l h = refl
 wider a k b (x ∷ keys) l h =
     let p = and_parts (lies_between (Some k) b x) (list_all (lies_between (Some k) b) keys) h in
@@ -38,7 +43,8 @@ wider a k b (x ∷ keys) l h =
     (and_from (ends_rise a (Some x)) (ends_rise (Some x) b) (ends_rise-trans a k (Some x) l q.0) q.1)
     (wider a k b keys l p.1)
 
-pub lies_between-risen : (a b : Option (List ℕ)) (keys : List (List ℕ)) → rise_between a b keys ≡ true → list_all (lies_between a b) keys ≡ true
+pub lies_between-risen : (a b : Option (List ℕ)) (keys : List (List ℕ)) → rise_between a b keys ≡ true
+    → list_all (lies_between a b) keys ≡ true
 lies_between-risen a b [] h = refl
 lies_between-risen a b (k ∷ keys) h =
     let p = and_parts (ends_rise a (Some k)) (rise_between (Some k) b keys) h in
@@ -55,11 +61,14 @@ pub record AreBetween (a b : Option (List ℕ)) (n : ℕ) (keys : List (List ℕ
 none : (a b : Option (List ℕ)) → ends_rise a b ≡ true → AreBetween a b 0 []
 none a b h = record { count = refl; are_keys = refl; rise = h }
 
-joined : {a b : Option (List ℕ)} {m n : ℕ} {xs : List (List ℕ)} {k : List ℕ} {ys : List (List ℕ)} (total : ℕ) → m + n + 1 ≡ total → is_key k ≡ true
+joined : {a b : Option (List ℕ)} {m n : ℕ} {xs : List (List ℕ)} {k : List ℕ} {ys : List (List ℕ)} (total : ℕ)
+    → m + n + 1 ≡ total → is_key k ≡ true
     → AreBetween a (Some k) m xs → AreBetween (Some k) b n ys → AreBetween a b total (xs ++ k ∷ ys)
 joined {a} {b} {m} {n} {xs} {k} {ys} total e key h l = record {
   count = length-append xs (k ∷ ys) ∙ omega (arith, h.count, l.count);
-  are_keys = list_all-append is_key xs (k ∷ ys) ∙ and_from (list_all is_key xs) (list_all is_key (k ∷ ys)) h.are_keys (and_from (is_key k) (list_all is_key ys) key l.are_keys);
+  are_keys = list_all-append is_key xs (k ∷ ys)
+      ∙ and_from (list_all is_key xs) (list_all is_key (k ∷ ys)) h.are_keys
+      (and_from (is_key k) (list_all is_key ys) key l.are_keys);
   rise = rise_between-join a b xs k ys h.rise l.rise;
 }
 
@@ -72,23 +81,28 @@ unfolding keys_above
 keys_above-law a zero h = none a None (open_above a)
 keys_above-law a (suc n) h =
     let k = key_between-law a None h refl (open_above a) in
-    joined {xs = []} (suc n) (omega arith) k.key (none a (Some (key_between a None)) k.above) (keys_above-law (Some (key_between a None)) n k.key)
+    joined {xs = []} (suc n) (omega arith) k.key (none a (Some (key_between a None)) k.above)
+    (keys_above-law (Some (key_between a None)) n k.key)
 
 keys_below-law : (b : Option (List ℕ)) (n : ℕ) → is_key_or_none b ≡ true → AreBetween None b n (keys_below b n)
 unfolding keys_below
 keys_below-law b zero h = none None b refl
 keys_below-law b (suc n) h =
     let k = key_between-law None b refl h refl in
-    joined {ys = []} (suc n) (omega arith) k.key (keys_below-law (Some (key_between None b)) n k.key) (none (Some (key_between None b)) b k.below)
+    joined {ys = []} (suc n) (omega arith) k.key (keys_below-law (Some (key_between None b)) n k.key)
+    (none (Some (key_between None b)) b k.below)
 
-keys_inside-law : (depth : ℕ) (a b : Option (List ℕ)) (n : ℕ) → n ≤ depth → is_key_or_none a ≡ true → is_key_or_none b ≡ true → ends_rise a b ≡ true → AreBetween a b n (keys_inside depth a b n)
+keys_inside-law : (depth : ℕ) (a b : Option (List ℕ)) (n : ℕ) → n ≤ depth → is_key_or_none a ≡ true
+    → is_key_or_none b ≡ true → ends_rise a b ≡ true → AreBetween a b n (keys_inside depth a b n)
 unfolding keys_inside
-keys_inside-law zero a b n most h l e = let none_left : 0 ≡ n = omega arith in subst (λ m. AreBetween a b m []) none_left (none a b e)
+keys_inside-law zero a b n most h l e =
+    let none_left : 0 ≡ n = omega arith in subst (λ m. AreBetween a b m []) none_left (none a b e)
 keys_inside-law (suc depth) a b n most h l e =
     let c = Some (key_between a b) in
     let k = key_between-law a b h l e in
     let upper = n - n / 2 - 1 in
-    cond_both (eqb n 0) [] (keys_inside depth a c (n / 2) ++ key_between a b ∷ keys_inside depth c b upper) (AreBetween a b n)
+    cond_both (eqb n 0) [] (keys_inside depth a c (n / 2) ++ key_between a b ∷ keys_inside depth c b upper)
+    (AreBetween a b n)
     (λ t. subst (λ m. AreBetween a b m []) (sym (eqb-true n 0 t)) (none a b e))
     (λ f.
     let some : 0 < n = grind (arith, eqb-false n 0 f) in
@@ -96,11 +110,13 @@ keys_inside-law (suc depth) a b n most h l e =
     (keys_inside-law depth a c (n / 2) (omega arith) h k.key k.above)
     (keys_inside-law depth c b upper (omega arith) k.key l k.below))
 
-pub keys_between-law : (a b : Option (List ℕ)) (n : ℕ) → is_key_or_none a ≡ true → is_key_or_none b ≡ true → ends_rise a b ≡ true → AreBetween a b n (keys_between a b n)
+pub keys_between-law : (a b : Option (List ℕ)) (n : ℕ) → is_key_or_none a ≡ true → is_key_or_none b ≡ true
+    → ends_rise a b ≡ true → AreBetween a b n (keys_between a b n)
 keys_between-law a None n h l e = keys_above-law a n h
 keys_between-law None (Some b) n h l e = keys_below-law (Some b) n l
 keys_between-law (Some a) (Some b) n h l e = keys_inside-law n (Some a) (Some b) n (le_refl n) h l e
 
 -- the same of lists that are known to be those keys
-pub keys_between_are : (a b : Option (List ℕ)) (n : ℕ) → is_key_or_none a ≡ true → is_key_or_none b ≡ true → ends_rise a b ≡ true → (keys : List (List ℕ)) → keys ≡ keys_between a b n → AreBetween a b n keys
+pub keys_between_are : (a b : Option (List ℕ)) (n : ℕ) → is_key_or_none a ≡ true → is_key_or_none b ≡ true
+    → ends_rise a b ≡ true → (keys : List (List ℕ)) → keys ≡ keys_between a b n → AreBetween a b n keys
 keys_between_are a b n h l e keys are = subst (AreBetween a b n) (sym are) (keys_between-law a b n h l e)

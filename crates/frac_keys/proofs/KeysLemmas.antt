@@ -9,7 +9,8 @@ pub last_or-push : (end : Option (List ℕ)) (xs : List (List ℕ)) (x : List �
 last_or-push end [] x = refl
 last_or-push end (y ∷ xs) x = last_or-push (Some y) xs x
 
-pub last_or-get : (end : Option (List ℕ)) (xs : List (List ℕ)) (d : List ℕ) → 0 < length xs → last_or end xs ≡ Some (get_or xs (length xs - 1) d)
+pub last_or-get : (end : Option (List ℕ)) (xs : List (List ℕ)) (d : List ℕ) → 0 < length xs
+    → last_or end xs ≡ Some (get_or xs (length xs - 1) d)
 last_or-get end [] d h = absurd (omega arith)
 last_or-get end (x ∷ []) d h = refl
 last_or-get end (x ∷ y ∷ xs) d h =
@@ -17,7 +18,8 @@ last_or-get end (x ∷ y ∷ xs) d h =
     last_or-get (Some x) (y ∷ xs) d (omega arith) ∙ ap (λ n. Some (get_or (x ∷ y ∷ xs) n d)) (sym e)
 
 -- one more key above those that are there
-pub keys_above-more : (a : Option (List ℕ)) (xs : List (List ℕ)) (k : List ℕ) (i n : ℕ) → i < n → k ≡ key_between (last_or a xs) None
+pub keys_above-more : (a : Option (List ℕ)) (xs : List (List ℕ)) (k : List ℕ) (i n : ℕ) → i < n
+    → k ≡ key_between (last_or a xs) None
     → xs ++ keys_above (last_or a xs) (n - i) ≡ (xs ++ k ∷ []) ++ keys_above (last_or a (xs ++ k ∷ [])) (n - (i + 1))
 unfolding keys_above
 keys_above-more a xs k i n h e =
@@ -25,8 +27,10 @@ keys_above-more a xs k i n h e =
     rw (left, last_or-push, ← e, append_assoc) refl
 
 -- one more key below those that are there, the last of which is the least
-pub keys_below-more : (b : Option (List ℕ)) (xs : List (List ℕ)) (k : List ℕ) (i n : ℕ) → i < n → k ≡ key_between None (last_or b xs)
-    → keys_below (last_or b xs) (n - i) ++ reverse xs ≡ keys_below (last_or b (xs ++ k ∷ [])) (n - (i + 1)) ++ reverse (xs ++ k ∷ [])
+pub keys_below-more : (b : Option (List ℕ)) (xs : List (List ℕ)) (k : List ℕ) (i n : ℕ) → i < n
+    → k ≡ key_between None (last_or b xs)
+    → keys_below (last_or b xs) (n - i) ++ reverse xs ≡ keys_below (last_or b (xs ++ k ∷ [])) (n - (i + 1))
+    ++ reverse (xs ++ k ∷ [])
 unfolding keys_below
 keys_below-more b xs k i n h e =
     let left : n - i ≡ suc (n - (i + 1)) = omega arith in
@@ -47,7 +51,8 @@ unfolding keys_inside
 none_inside zero a b = refl
 none_inside (suc depth) a b = refl
 
-pub keys_inside-depth : (d e : ℕ) (a b : Option (List ℕ)) (n : ℕ) → n ≤ d → n ≤ e → keys_inside d a b n ≡ keys_inside e a b n
+pub keys_inside-depth : (d e : ℕ) (a b : Option (List ℕ)) (n : ℕ) → n ≤ d → n ≤ e
+    → keys_inside d a b n ≡ keys_inside e a b n
 unfolding keys_inside
 keys_inside-depth zero e a b n h l = let none : n ≡ 0 = omega arith in rw none (sym (none_inside e a b))
 keys_inside-depth (suc d) zero a b n h l = let none : n ≡ 0 = omega arith in rw none (none_inside (suc d) a b)
@@ -61,24 +66,29 @@ keys_inside-depth (suc d) (suc e) a b n h l =
           let upper = keys_inside-depth d e m b (n - n / 2 - 1) (omega arith) (omega arith) in
           cond-false (eqb n 0) [] (keys_inside d a m (n / 2) ++ key_between a b ∷ keys_inside d m b (n - n / 2 - 1)) f
           ∙ (ap₂ (λ xs ys. xs ++ key_between a b ∷ ys) lower upper
-          ∙ sym (cond-false (eqb n 0) [] (keys_inside e a m (n / 2) ++ key_between a b ∷ keys_inside e m b (n - n / 2 - 1)) f))
+          ∙ sym (cond-false (eqb n 0) [] (keys_inside e a m (n / 2) ++ key_between a b
+          ∷ keys_inside e m b (n - n / 2 - 1)) f))
     ]
 
 -- the middle key and the halves beside it, each with the depth that its number asks for
 pub keys_inside-halves : (a b : Option (List ℕ)) (k : List ℕ) (n : ℕ) → 0 < n → k ≡ key_between a b
-    → keys_inside n a b n ≡ keys_inside (n / 2) a (Some k) (n / 2) ++ k ∷ keys_inside (n - n / 2 - 1) (Some k) b (n - n / 2 - 1)
+    → keys_inside n a b n ≡ keys_inside (n / 2) a (Some k) (n / 2) ++ k
+    ∷ keys_inside (n - n / 2 - 1) (Some k) b (n - n / 2 - 1)
 unfolding keys_inside
 keys_inside-halves a b k zero h e = absurd (omega arith)
 keys_inside-halves a b k (suc n) h e =
     let low = suc n / 2 in
     let high = suc n - suc n / 2 - 1 in
     let m = Some (key_between a b) in
-    rw e (cond-false (eqb (suc n) 0) [] (keys_inside n a m low ++ key_between a b ∷ keys_inside n m b high) (ne_eqb (suc n) 0 (omega arith))
+    rw e (cond-false (eqb (suc n) 0) [] (keys_inside n a m low ++ key_between a b ∷ keys_inside n m b high)
+    (ne_eqb (suc n) 0 (omega arith))
     ∙ ap₂ (λ xs ys. xs ++ key_between a b ∷ ys)
     (keys_inside-depth n low a (Some (key_between a b)) low (omega arith) (omega arith))
     (keys_inside-depth n high (Some (key_between a b)) b high (omega arith) (omega arith)))
 
 -- what is appended for the halves, one behind the other
-pub keys_inside-joined : (old : List (List ℕ)) (a b : Option (List ℕ)) (k : List ℕ) (n : ℕ) → 0 < n → k ≡ key_between a b
-    → (((old ++ keys_inside (n / 2) a (Some k) (n / 2)) ++ k ∷ []) ++ keys_inside (n - n / 2 - 1) (Some k) b (n - n / 2 - 1)) ≡ old ++ keys_inside n a b n
+pub keys_inside-joined : (old : List (List ℕ)) (a b : Option (List ℕ)) (k : List ℕ) (n : ℕ) → 0 < n
+    → k ≡ key_between a b
+    → (((old ++ keys_inside (n / 2) a (Some k) (n / 2)) ++ k ∷ [])
+    ++ keys_inside (n - n / 2 - 1) (Some k) b (n - n / 2 - 1)) ≡ old ++ keys_inside n a b n
 keys_inside-joined old a b k n h e = rw (keys_inside-halves a b k n h e, append_assoc, append_assoc) refl

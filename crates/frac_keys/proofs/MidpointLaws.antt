@@ -17,9 +17,12 @@ pub data IsPositive : List ℕ → Type 0 where
 above_zero : (d : ℕ) → is_key_digit d ≡ true → (d ≡ 48 → ⊥) → 48 < d
 above_zero d h ne = grind (arith, is_key_digit-range d h)
 
-pub IsPositive-from : (d : ℕ) (ds : List ℕ) → list_all is_key_digit (d ∷ ds) ≡ true → ends_in_zero (d ∷ ds) ≡ false → IsPositive (d ∷ ds)
-IsPositive-from d [] h z = let digit : is_key_digit d ≡ true = (and_parts _ _ h).0 in last digit (above_zero d digit (eqb-false d 48 z))
-IsPositive-from d (e ∷ ds) h z = let p = and_parts (is_key_digit d) (list_all is_key_digit (e ∷ ds)) h in more p.0 (IsPositive-from e ds p.1 z)
+pub IsPositive-from : (d : ℕ) (ds : List ℕ) → list_all is_key_digit (d ∷ ds) ≡ true → ends_in_zero (d ∷ ds) ≡ false
+    → IsPositive (d ∷ ds)
+IsPositive-from d [] h z =
+    let digit : is_key_digit d ≡ true = (and_parts _ _ h).0 in last digit (above_zero d digit (eqb-false d 48 z))
+IsPositive-from d (e ∷ ds) h z =
+    let p = and_parts (is_key_digit d) (list_all is_key_digit (e ∷ ds)) h in more p.0 (IsPositive-from e ds p.1 z)
 
 pub IsPositive-digits : {ds : List ℕ} → IsPositive ds → list_all is_key_digit ds ≡ true
 IsPositive-digits (last h l) = and_from _ _ h refl
@@ -38,7 +41,8 @@ ends_in_zero-positive (x ∷ []) (more h p) = ends_in_zero-positive [] (more h p
 ends_in_zero-positive (x ∷ y ∷ i) p = ends_in_zero-positive (y ∷ i) p
 
 -- A digit between `b` and `high`, alone.
-pub middle-positive : (b high : ℕ) → is_key_digit b ≡ true → ltb 1 (high - digit_value b) ≡ true → high ≤ 62 → IsPositive (middle_digit (digit_value b) high ∷ [])
+pub middle-positive : (b high : ℕ) → is_key_digit b ≡ true → ltb 1 (high - digit_value b) ≡ true → high ≤ 62
+    → IsPositive (middle_digit (digit_value b) high ∷ [])
 middle-positive b high h far most =
     let m = middle_digit-above b high h (ltb-true 1 (high - digit_value b) far) most in
     last m.0 (grind (arith, is_key_digit-range b h, m.1))
@@ -58,7 +62,8 @@ midpoint_above-law [] h = record { positive = half-positive; above = ended }
 midpoint_above-law (d ∷ ds) h =
     let p = and_parts (is_key_digit d) (list_all is_key_digit ds) h in
     let rest = midpoint_above-law ds p.1 in
-    cond_both (ltb 1 (62 - digit_value d)) (middle_digit (digit_value d) 62 ∷ []) (d ∷ midpoint_above ds) (IsAbove (d ∷ ds))
+    cond_both (ltb 1 (62 - digit_value d)) (middle_digit (digit_value d) 62 ∷ []) (d ∷ midpoint_above ds)
+    (IsAbove (d ∷ ds))
     (λ far. record {
       positive = middle-positive d 62 p.0 far (omega arith);
       above = parted (middle_digit-above d 62 p.0 (ltb-true 1 (62 - digit_value d) far) (omega arith)).1;
@@ -113,33 +118,42 @@ pub not_below_nil : {a : List ℕ} → IsLess a [] → ⊥
 not_below_nil l = elim l [ ]
 
 -- where no digit stands between the first ones
-midpoint_beside-law : (a : List ℕ) (y : ℕ) (ys : List ℕ) → list_all is_key_digit a ≡ true → IsPositive (y ∷ ys) → first_digit a < y → IsMiddle a (y ∷ ys) (midpoint_beside a (y ∷ ys))
+midpoint_beside-law : (a : List ℕ) (y : ℕ) (ys : List ℕ) → list_all is_key_digit a ≡ true → IsPositive (y ∷ ys)
+    → first_digit a < y → IsMiddle a (y ∷ ys) (midpoint_beside a (y ∷ ys))
 unfolding midpoint_beside
 midpoint_beside-law a y [] h p l =
     let rest = midpoint_above-law (later_digits a) (later-digits a h) in
     record { positive = more (first-digit a h) rest.positive; above = below-later a _ rest.above; below = parted l }
 midpoint_beside-law a y (z ∷ zs) h p l =
-    record { positive = last (head p) (grind (arith, is_key_digit-range (first_digit a) (first-digit a h))); above = below-parted a y [] l; below = later ended }
+    record {
+      positive = last (head p) (grind (arith, is_key_digit-range (first_digit a) (first-digit a h)));
+      above =
+          below-parted a y [] l;
+      below = later ended;
+    }
 
 tail_above : {y : ℕ} {ys a : List ℕ} → IsPositive (y ∷ ys) → IsLess a ys → IsPositive ys
 tail_above (last h k) l = absurd (not_below_nil l)
 tail_above (more h p) l = p
 
-pub midpoint-law : (a b : List ℕ) → list_all is_key_digit a ≡ true → IsPositive b → IsLess a b → IsMiddle a b (midpoint a b)
+pub midpoint-law : (a b : List ℕ) → list_all is_key_digit a ≡ true → IsPositive b → IsLess a b
+    → IsMiddle a b (midpoint a b)
 unfolding midpoint
 midpoint-law a [] h p l = absurd (not_below_nil l)
 midpoint-law a (y ∷ ys) h p l =
     let first = first-digit a h in
     let gap = digit_value y - digit_value (first_digit a) in
     let middle = middle_digit (digit_value (first_digit a)) (digit_value y) ∷ [] in
-    cond_both (eqb (first_digit a) y) (y ∷ midpoint (later_digits a) ys) (cond (ltb 1 gap) middle (midpoint_beside a (y ∷ ys))) (IsMiddle a (y ∷ ys))
+    cond_both (eqb (first_digit a) y) (y ∷ midpoint (later_digits a) ys)
+    (cond (ltb 1 gap) middle (midpoint_beside a (y ∷ ys))) (IsMiddle a (y ∷ ys))
     (λ same. elim (heads a l p) [
       | inl lt ↦ absurd (let e : first_digit a ≡ y = eqb-true (first_digit a) y same in omega arith)
       | inr e ↦
           let rest = midpoint-law (later_digits a) ys (later-digits a h) (tail_above p e.1) e.1 in
           record {
             positive = more (head p) rest.positive;
-            above = subst (λ d. IsLess a (d ∷ midpoint (later_digits a) ys)) e.0 (below-later a (midpoint (later_digits a) ys) rest.above);
+            above = subst (λ d. IsLess a (d ∷ midpoint (later_digits a) ys)) e.0
+                (below-later a (midpoint (later_digits a) ys) rest.above);
             below = later rest.below;
           }
     ])
@@ -148,7 +162,9 @@ midpoint-law a (y ∷ ys) h p l =
       | inl lt ↦ cond_both (ltb 1 gap) middle (midpoint_beside a (y ∷ ys)) (IsMiddle a (y ∷ ys))
           (λ far. record {
             positive = middle-positive (first_digit a) (digit_value y) first far (le_of_lt (digit_value-lt y (head p)));
-            above = below-parted a (middle_digit (digit_value (first_digit a)) (digit_value y)) [] (middle_digit-above (first_digit a) (digit_value y) first (ltb-true 1 gap far) (le_of_lt (digit_value-lt y (head p)))).1;
+            above = below-parted a (middle_digit (digit_value (first_digit a)) (digit_value y)) []
+                (middle_digit-above (first_digit a) (digit_value y) first (ltb-true 1 gap far)
+                (le_of_lt (digit_value-lt y (head p)))).1;
             below = parted (middle_digit-below (digit_value (first_digit a)) y (head p) (ltb-true 1 gap far));
           })
           (λ _. midpoint_beside-law a y ys h p lt)

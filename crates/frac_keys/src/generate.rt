@@ -13,14 +13,16 @@ use crate::midpoint::{push_midpoint, push_midpoint_above};
 use crate::parts::{SMALLEST, is_less, split};
 use std::alloc::{AllocError, Global};
 
-/// The key between two ends, the first of which is less; an absent end is beyond all keys. Fails only for want of
-/// memory. Source: rocicorp's fractional-indexing; that the smallest integer part is followed by `V`, where that part
-/// alone would come out, is this project's own.
+/// The key between two ends, the first of which is less; an absent end is beyond all keys. Fails
+/// only for want of memory. Source: rocicorp's fractional-indexing; that the smallest integer part
+/// is followed by `V`, where that part alone would come out, is this project's own.
 pub fn between(alloc: Global, a: Option<&Key>, b: Option<&Key>) -> Result<Key, AllocError>
     requires { IsTrue (ends_rise (option_copied a) (option_copied b)) }
-    ensures exact { IfOk result (λ key. key ≡ key_between (option_copied a.entry) (option_copied b.entry)) }
+    ensures exact { IfOk result (λ key. key
+        ≡ key_between (option_copied a.entry) (option_copied b.entry)) }
     ensures key { IfOk result (λ key. IsTrue (is_key key)) }
-    ensures inside { IfOk result (λ key. IsTrue (lies_between (option_copied a.entry) (option_copied b.entry) key)) }
+    ensures inside { IfOk result (λ key. IsTrue
+        (lies_between (option_copied a.entry) (option_copied b.entry) key)) }
 {
     key_between(alloc, end_bytes(a), end_bytes(b))
 }
@@ -42,9 +44,11 @@ pub(crate) fn key_between(
     requires a { IsTrue (is_key_or_none (option_copied a)) }
     requires b { IsTrue (is_key_or_none (option_copied b)) }
     requires rise { IsTrue (ends_rise (option_copied a) (option_copied b)) }
-    ensures exact { IfOk result (λ key. key ≡ key_between (option_copied a.entry) (option_copied b.entry)) }
+    ensures exact { IfOk result (λ key. key
+        ≡ key_between (option_copied a.entry) (option_copied b.entry)) }
     ensures key { IfOk result (λ key. IsTrue (is_key key)) }
-    ensures inside { IfOk result (λ key. IsTrue (lies_between (option_copied a.entry) (option_copied b.entry) key)) }
+    ensures inside { IfOk result (λ key. IsTrue
+        (lies_between (option_copied a.entry) (option_copied b.entry) key)) }
 {
     let bytes = bytes_between(alloc, a, b)?;
     Ok(Key::from_vec(bytes))
@@ -54,7 +58,8 @@ pub(crate) fn key_between(
 fn bytes_between(alloc: Global, a: Option<&[u8]>, b: Option<&[u8]>) -> Result<Vec<u8>, AllocError>
     requires a { IsTrue (is_key_or_none (option_copied a)) }
     requires b { IsTrue (is_key_or_none (option_copied b)) }
-    ensures { IfOk result (λ v. v.items ≡ key_between (option_copied a.entry) (option_copied b.entry)) }
+    ensures { IfOk result (λ v. v.items
+        ≡ key_between (option_copied a.entry) (option_copied b.entry)) }
 {
     match (a, b) {
         (None, None) => Vec::from_slice(alloc, b"a0"),
@@ -77,7 +82,8 @@ fn key_above(alloc: Global, a: &[u8]) -> Result<Vec<u8>, AllocError>
     with_midpoint_above(alloc, integer, fraction)
 }
 
-/// The key below a key: its integer part or the one below, and a fraction where only the smallest is left.
+/// The key below a key: its integer part or the one below, and a fraction where only the smallest
+/// is left.
 #[tactic(auto, unfolding(crate::specs::Between::key_below))]
 fn key_below(alloc: Global, b: &[u8]) -> Result<Vec<u8>, AllocError>
     requires { IsTrue (is_key b.now) }
@@ -100,8 +106,8 @@ fn key_below(alloc: Global, b: &[u8]) -> Result<Vec<u8>, AllocError>
     Ok(bytes)
 }
 
-/// The key between two keys: by their fractions where the integer parts agree, else the integer part above the
-/// first one, or a greater fraction where that is too far.
+/// The key between two keys: by their fractions where the integer parts agree, else the integer
+/// part above the first one, or a greater fraction where that is too far.
 #[tactic(auto, using(crate::proofs::OrderLaws::bytes_less_itself), unfolding(crate::specs::Between::key_inside))]
 fn key_inside(alloc: Global, a: &[u8], b: &[u8]) -> Result<Vec<u8>, AllocError>
     requires low { IsTrue (is_key a.now) }

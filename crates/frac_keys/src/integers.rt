@@ -49,7 +49,8 @@ fn last_other(integer: &[u8], full: u8) -> Option<usize>
     ensures none { IfNone result (IsTrue (list_all (λ digit. digit == full) (drop 1 integer.now))) }
     ensures place { IfSome result (λ at. (0 < at) × (at < length integer.now)) }
     ensures other { IfSome result (λ at. slice_index integer.now at ≢ full) }
-    ensures behind { IfSome result (λ at. IsTrue (list_all (λ digit. digit == full) (drop (at + 1) integer.now))) }
+    ensures behind { IfSome result
+        (λ at. IsTrue (list_all (λ digit. digit == full) (drop (at + 1) integer.now))) }
 {
     for at in (1..integer.len()).rev() {
         if integer[at] != full {
@@ -68,7 +69,8 @@ fn filled(
     fill: u8,
 ) -> Result<Vec<u8>, AllocError>
     requires { length front.now + 1 ≤ len }
-    ensures { IfOk result (λ v. v.items ≡ front.now ++ byte ∷ replicate (len - length front.now - 1) fill) }
+    ensures { IfOk result (λ v. v.items ≡ front.now ++ byte
+        ∷ replicate (len - length front.now - 1) fill) }
 {
     let mut bytes = Vec::with_capacity(alloc, len)?;
     bytes.extend_from_slice(front)?;

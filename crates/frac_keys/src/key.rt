@@ -27,10 +27,11 @@ impl Model for Key {
 }
 
 impl Key {
-    /// The key that these bytes are, or None exactly where they aren't one. Fails only for want of memory, and only
-    /// where they are one.
+    /// The key that these bytes are, or None exactly where they aren't one. Fails only for want of
+    /// memory, and only where they are one.
     pub fn read(alloc: Global, bytes: &[u8]) -> Result<Option<Key>, AllocError>
-        ensures exact { IfOk result (λ key. key ≡ (if keys.is_key bytes.now then Some bytes.now else None)) }
+        ensures exact { IfOk result (λ key. key
+            ≡ (if keys.is_key bytes.now then Some bytes.now else None)) }
         ensures none { IsFalse (keys.is_key bytes.now) → result ≡ Ok None }
     {
         if !is_key(bytes) {

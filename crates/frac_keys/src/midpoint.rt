@@ -22,8 +22,10 @@ pub(crate) fn push_midpoint(bytes: &mut Vec<u8>, a: &[u8], b: &[u8]) -> Result<(
 /// How many digits two fractions begin with alike, `0`s behind the first one counted.
 fn shared_len(a: &[u8], b: &[u8]) -> usize
     ensures within { result ≤ length b.now }
-    ensures shared { midpoint a.now b.now ≡ take result b.now ++ midpoint (drop result a.now) (drop result b.now) }
-    ensures parted { result < length b.now → first_digit (drop result a.now) ≢ slice_index b.now result }
+    ensures shared { midpoint a.now b.now ≡ take result b.now
+        ++ midpoint (drop result a.now) (drop result b.now) }
+    ensures parted { result < length b.now
+        → first_digit (drop result a.now) ≢ slice_index b.now result }
 {
     for (i, digit) in b.iter().enumerate() {
         if first_digit(&a[i.min(a.len())..]) != *digit {

@@ -11,8 +11,8 @@ use crate::key::Key;
 use board_base::List;
 use std::alloc::{AllocError, Global};
 
-/// `n` keys between two ends, the first of which is less; an absent end is beyond all keys. Fails only for want of
-/// memory. Source: rocicorp's fractional-indexing.
+/// `n` keys between two ends, the first of which is less; an absent end is beyond all keys. Fails
+/// only for want of memory. Source: rocicorp's fractional-indexing.
 pub fn n_between(
     alloc: Global,
     a: Option<&Key>,
@@ -20,12 +20,15 @@ pub fn n_between(
     n: usize,
 ) -> Result<List<Key>, AllocError>
     requires { IsTrue (ends_rise (option_copied a) (option_copied b)) }
-    ensures exact { IfOk result (λ keys. keys ≡ keys_between (option_copied a.entry) (option_copied b.entry) n) }
+    ensures exact { IfOk result (λ keys. keys ≡ keys_between (option_copied a.entry)
+        (option_copied b.entry) n) }
     ensures count { IfOk result (λ keys. length keys ≡ n) }
     ensures are_keys { IfOk result (λ keys. IsTrue (list_all is_key keys)) }
-    ensures rise { IfOk result (λ keys. IsTrue (rise_between (option_copied a.entry) (option_copied b.entry) keys)) }
+    ensures rise { IfOk result (λ keys. IsTrue
+        (rise_between (option_copied a.entry) (option_copied b.entry) keys)) }
     ensures inside { IfOk result
-        (λ keys. IsTrue (list_all (lies_between (option_copied a.entry) (option_copied b.entry)) keys)) }
+        (λ keys. IsTrue (list_all (lies_between (option_copied a.entry) (option_copied b.entry))
+        keys)) }
 {
     let keys = keys_between(alloc, end_bytes(a), end_bytes(b), n)?;
     Ok(List::from_vec(keys))
@@ -41,7 +44,8 @@ fn keys_between(
     requires a { IsTrue (is_key_or_none (option_copied a)) }
     requires b { IsTrue (is_key_or_none (option_copied b)) }
     requires rise { IsTrue (ends_rise (option_copied a) (option_copied b)) }
-    ensures { IfOk result (λ keys. keys.items ≡ keys_between (option_copied a.entry) (option_copied b.entry) n) }
+    ensures { IfOk result (λ keys. keys.items ≡ keys_between (option_copied a.entry)
+        (option_copied b.entry) n) }
 {
     match (a, b) {
         (_, None) => keys_above(alloc, a, n),
@@ -81,7 +85,8 @@ fn keys_below(alloc: Global, b: Option<&[u8]>, n: usize) -> Result<Vec<Key>, All
     Ok(keys)
 }
 
-/// Appends `n` keys, above the last one or the first end where there is none, and below the second end.
+/// Appends `n` keys, above the last one or the first end where there is none, and below the
+/// second end.
 fn push_inside(
     alloc: Global,
     keys: &mut Vec<Key>,
@@ -91,9 +96,11 @@ fn push_inside(
 ) -> Result<(), AllocError>
     requires a { IsTrue (is_key_or_none (option_copied a)) }
     requires b { IsTrue (is_key_or_none (option_copied b)) }
-    requires rise { IsTrue (ends_rise (last_or (option_copied a) keys.old.items) (option_copied b)) }
+    requires rise { IsTrue (ends_rise (last_or (option_copied a) keys.old.items)
+        (option_copied b)) }
     ensures { OnOk result (keys.new.items ≡ keys.old.items
-        ++ keys_inside n (last_or (option_copied a.entry) keys.old.items) (option_copied b.entry) n) }
+        ++ keys_inside n (last_or (option_copied a.entry) keys.old.items) (option_copied b.entry)
+        n) }
 {
     if n == 0 {
         return Ok(());

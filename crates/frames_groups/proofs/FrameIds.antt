@@ -20,18 +20,21 @@ alone : (among : Bool) → among ≡ (among || (false || false))
 alone true = refl
 alone false = refl
 
-pub HasFrames-frame : (frames new : BTreeSet (List ℕ)) (elements : List ElementValue) (e : ElementValue) (id : List ℕ) → HasFrames frames elements → Updates (slice_cmp nat_cmp) frames new id true → id ≡ e.id → is_frame e ≡ true
+pub HasFrames-frame : (frames new : BTreeSet (List ℕ)) (elements : List ElementValue) (e : ElementValue) (id : List ℕ)
+    → HasFrames frames elements → Updates (slice_cmp nat_cmp) frames new id true → id ≡ e.id → is_frame e ≡ true
     → HasFrames new (elements ++ e ∷ [])
 HasFrames-frame frames new elements e id has updates own frame other =
     let same = bytes_eq other e.id in
     updates.0 other
-    ∙ ap (λ b. cond b true (contains (slice_cmp nat_cmp) frames other)) (sym (texts_ties id other) ∙ nat_list_eq_equiv.symm id other ∙ ap (bytes_eq other) own)
+    ∙ ap (λ b. cond b true (contains (slice_cmp nat_cmp) frames other)) (sym (texts_ties id other)
+    ∙ nat_list_eq_equiv.symm id other ∙ ap (bytes_eq other) own)
     ∙ ap (cond same true) (has other)
     ∙ joined same (has_frame elements other)
     ∙ ap (λ b. has_frame elements other || ((b && same) || false)) (sym frame)
     ∙ sym (list_any-append (is_frame_of other) elements (e ∷ []))
 
-pub HasFrames-other : (frames : BTreeSet (List ℕ)) (elements : List ElementValue) (e : ElementValue) → HasFrames frames elements → is_frame e ≡ false → HasFrames frames (elements ++ e ∷ [])
+pub HasFrames-other : (frames : BTreeSet (List ℕ)) (elements : List ElementValue) (e : ElementValue)
+    → HasFrames frames elements → is_frame e ≡ false → HasFrames frames (elements ++ e ∷ [])
 HasFrames-other frames elements e has none other =
     has other ∙ alone (has_frame elements other)
     ∙ ap (λ b. has_frame elements other || ((b && bytes_eq other e.id) || false)) (sym none)

@@ -19,14 +19,18 @@ HaveDistinctGroups-settled elements =
 grouped-distinct : (e : ElementValue) → HasDistinctGroups e → grouped e ≡ e
 grouped-distinct e h = ap (with_groups e) (first_texts-distinct e.groups h)
 
-pub groups_settled-distinct : (elements : List ElementValue) → HaveDistinctGroups elements → groups_settled elements ≡ elements
+pub groups_settled-distinct : (elements : List ElementValue) → HaveDistinctGroups elements
+    → groups_settled elements ≡ elements
 groups_settled-distinct elements h =
     map-same grouped elements (All-weaker HasDistinctGroups (λ e. grouped e ≡ e) grouped-distinct elements h)
 
-pub groups_settled-settled : (elements : List ElementValue) → groups_settled (groups_settled elements) ≡ groups_settled elements
-groups_settled-settled elements = groups_settled-distinct (groups_settled elements) (HaveDistinctGroups-settled elements)
+pub groups_settled-settled : (elements : List ElementValue)
+    → groups_settled (groups_settled elements) ≡ groups_settled elements
+groups_settled-settled elements =
+    groups_settled-distinct (groups_settled elements) (HaveDistinctGroups-settled elements)
 
-pub groups_settled-others : (elements : List ElementValue) → map without_groups (groups_settled elements) ≡ map without_groups elements
+pub groups_settled-others : (elements : List ElementValue)
+    → map without_groups (groups_settled elements) ≡ map without_groups elements
 groups_settled-others elements = map-map without_groups grouped elements
 
 -- ---- beside frames
@@ -38,18 +42,23 @@ module _ (names_frame : List ℕ → Bool) where
       go true = refl
       go false = refl
 
-pub settled-either : (elements : List ElementValue) → frames_settled (groups_settled elements) ≡ groups_settled (frames_settled elements)
+pub settled-either : (elements : List ElementValue) → frames_settled (groups_settled elements)
+    ≡ groups_settled (frames_settled elements)
 settled-either elements =
     let names = has_frame elements in
-    ap (λ h. map (framed h) (groups_settled elements)) (λ i id. list_any-map (is_frame_of id) grouped elements (λ e. refl) i)
+    ap (λ h. map (framed h) (groups_settled elements)) (λ i id. list_any-map (is_frame_of id) grouped elements
+    (λ e. refl) i)
     ∙ map-map (framed names) grouped elements
     ∙ map-agree (λ e. framed names (grouped e)) (λ e. grouped (framed names e)) elements (framed-grouped names)
     ∙ sym (map-map grouped (framed names) elements)
 
 pub NameFrames-grouped : (elements : List ElementValue) → NameFrames elements → NameFrames (groups_settled elements)
 NameFrames-grouped elements h =
-    subst NameFrames (settled-either elements ∙ ap groups_settled (frames_settled-named elements h)) (NameFrames-settled (groups_settled elements))
+    subst NameFrames (settled-either elements ∙ ap groups_settled (frames_settled-named elements h))
+    (NameFrames-settled (groups_settled elements))
 
-pub HaveDistinctGroups-framed : (elements : List ElementValue) → HaveDistinctGroups elements → HaveDistinctGroups (frames_settled elements)
+pub HaveDistinctGroups-framed : (elements : List ElementValue) → HaveDistinctGroups elements
+    → HaveDistinctGroups (frames_settled elements)
 HaveDistinctGroups-framed elements h =
-    subst HaveDistinctGroups (sym (settled-either elements) ∙ ap frames_settled (groups_settled-distinct elements h)) (HaveDistinctGroups-settled (frames_settled elements))
+    subst HaveDistinctGroups (sym (settled-either elements) ∙ ap frames_settled (groups_settled-distinct elements h))
+    (HaveDistinctGroups-settled (frames_settled elements))

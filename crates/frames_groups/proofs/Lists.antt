@@ -17,8 +17,10 @@ module _ {X : Type 0} where
   pub map-same : (f : X → X) (xs : List X) → All (λ x. f x ≡ x) xs → map f xs ≡ xs
   map-same f [] h = refl
   map-same f (x ∷ xs) h =
-      ap (λ y. y ∷ map f xs) (All-head (λ x. f x ≡ x) x xs h) ∙ ap (λ ys. x ∷ ys) (map-same f xs (All-tail (λ x. f x ≡ x) x xs h))
+      ap (λ y. y ∷ map f xs) (All-head (λ x. f x ≡ x) x xs h)
+      ∙ ap (λ ys. x ∷ ys) (map-same f xs (All-tail (λ x. f x ≡ x) x xs h))
 
-  pub list_any-map : (p : X → Bool) (f : X → X) (xs : List X) → ((x : X) → p (f x) ≡ p x) → list_any p (map f xs) ≡ list_any p xs
+  pub list_any-map : (p : X → Bool) (f : X → X) (xs : List X) → ((x : X) → p (f x) ≡ p x)
+      → list_any p (map f xs) ≡ list_any p xs
   list_any-map p f [] h = refl
   list_any-map p f (x ∷ xs) h = λ i. h x i || list_any-map p f xs h i

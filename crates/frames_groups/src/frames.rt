@@ -12,8 +12,8 @@ use json_text::Text;
 use std::alloc::{AllocError, Global};
 use std::collections::BTreeSet;
 
-/// The elements, each with the frame name that it keeps: a frame or magicframe of the list has none, and another
-/// element keeps a name that names one of these. Fails only for want of memory.
+/// The elements, each with the frame name that it keeps: a frame or magicframe of the list has
+/// none, and another element keeps a name that names one of these. Fails only for want of memory.
 pub fn settle_frames(alloc: Global, list: List<Element>) -> Result<List<Element>, AllocError>
     ensures exact { IfOk result (λ settled. settled ≡ frames_settled list) }
     ensures named { IfOk result NameFrames }
@@ -49,7 +49,8 @@ pub fn is_frame(e: &Element) -> bool
 
 /// Takes from each element its frame name, if that isn't kept.
 fn settle_each(frames: &BTreeSet<Text>, elements: &mut Vec<Element>)
-    ensures { elements.new.items ≡ map (framed (contains (slice_cmp nat_cmp) frames.now)) elements.old.items }
+    ensures { elements.new.items ≡ map (framed (contains (slice_cmp nat_cmp) frames.now))
+        elements.old.items }
 {
     for e in elements.iter_mut() {
         settle(frames, e);

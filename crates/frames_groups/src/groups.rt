@@ -9,7 +9,8 @@ use elem::Element;
 use json_text::{Text, first_occurrences};
 use std::alloc::{AllocError, Global};
 
-/// The elements, each in its groups once, in the order in which these first stand. Fails only for want of memory.
+/// The elements, each in its groups once, in the order in which these first stand. Fails only for
+/// want of memory.
 pub fn settle_groups(alloc: Global, list: List<Element>) -> Result<List<Element>, AllocError>
     ensures exact { IfOk result (λ settled. settled ≡ groups_settled list) }
     ensures distinct { IfOk result HaveDistinctGroups }

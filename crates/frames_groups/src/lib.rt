@@ -1,4 +1,5 @@
-//! Frames and groups of a board: frame names that name no frame go, and so do groups that an element names again.
+//! Frames and groups of a board: frame names that name no frame go, and so do groups that an
+//! element names again.
 #![tactic(auto)]
 
 mod frames;

@@ -53,11 +53,13 @@ unless P true o is = tt
 unless P false o is = is
 
 -- ---- keys
-with_view_key-kept : (shown : List ElementValue) (e : ElementValue) → AreKept shown → IsKept e → IsKept (with_view_key shown e)
+with_view_key-kept : (shown : List ElementValue) (e : ElementValue) → AreKept shown → IsKept e
+    → IsKept (with_view_key shown e)
 with_view_key-kept shown e all kept = with_index e kept (settled_key shown e) (settled_key-is shown e all kept)
 
 -- ---- members
-or-compact : (o : Option (List ℕ)) (value : List ℕ) → IfSome o (IsCompact 1) → IsCompact 100 value → IsCompact 119 (unwrap_or o value)
+or-compact : (o : Option (List ℕ)) (value : List ℕ) → IfSome o (IsCompact 1) → IsCompact 100 value
+    → IsCompact 119 (unwrap_or o value)
 or-compact None value is own = nests-more 100 119 value (omega arith) own
 or-compact (Some default') value is own = nests-more 1 119 default' (omega arith) is
 
@@ -65,15 +67,18 @@ either-compact : (b : Bool) (x y : List ℕ) → IsCompact 119 x → IsCompact 1
 either-compact true x y p q = p
 either-compact false x y p q = q
 
-found-compact : (name : List ℕ) (rows : List Pair) → AllByRecursion (λ (row : Pair). IsCompact 1 row.1) rows → IfSome (value_at name rows) (IsCompact 1)
+found-compact : (name : List ℕ) (rows : List Pair) → AllByRecursion (λ (row : Pair). IsCompact 1 row.1) rows
+    → IfSome (value_at name rows) (IsCompact 1)
 found-compact name [] all = tt
 found-compact name (row ∷ rows) all =
-    elim (bytes_eq name row.0) as (λ (b : Bool). IfSome (cond b (Some row.1) (value_at name rows)) (IsCompact 1)) [ true ↦ all.0 | false ↦ found-compact name rows all.1 ]
+    elim (bytes_eq name row.0) as (λ (b : Bool). IfSome (cond b (Some row.1) (value_at name rows)) (IsCompact 1))
+    [ true ↦ all.0 | false ↦ found-compact name rows all.1 ]
 
 given-compact : (name value : List ℕ) → IsCompact 100 value → IsCompact 119 (given_value name value)
 given-compact name value is =
     either-compact (bytes_eq value null_word) (unwrap_or (value_at name defaults) value) value
-    (or-compact (value_at name defaults) value (found-compact name defaults defaults-compact) is) (nests-more 100 119 value (omega arith) is)
+    (or-compact (value_at name defaults) value (found-compact name defaults defaults-compact) is)
+    (nests-more 100 119 value (omega arith) is)
 
 abbrev HasName : Member → Type 0
 HasName m = IsUtf8 m.name
@@ -86,11 +91,15 @@ names-written : (ms : List Member) → AllByRecursion HasName ms → AllByRecurs
 names-written [] all = tt
 names-written (m ∷ ms) all = (all.0, names-written ms all.1)
 
-with_set_member-kept : (name value : List ℕ) (e : ElementValue) → is_protected name ≡ false → IsCompact 100 value → IsUtf8 name → IsKept e → IsKept (with_set_member name value e)
+with_set_member-kept : (name value : List ℕ) (e : ElementValue) → is_protected name ≡ false → IsCompact 100 value
+    → IsUtf8 name → IsKept e → IsKept (with_set_member name value e)
 with_set_member-kept name value e free compact text kept =
     let given = given_value name value in
     with_rest e kept name given (free-header e.kind name free) (given-compact name value compact)
-    (names-written (with_value name (Some given) e.rest) (each-with_value HasName name (Some given) e.rest (text, tt) (members-named e.rest kept.written.rest)))
+    (names-written (with_value name (Some given) e.rest) (each-with_value HasName name (Some given) e.rest (
+      text,
+      tt,
+    ) (members-named e.rest kept.written.rest)))
 
 -- ---- what is deleted
 deleted_from-kept : (is_gone : List ℕ → Bool) (e : ElementValue) → IsKept e → IsKept (deleted_from is_gone e)
@@ -98,30 +107,41 @@ deleted_from-kept is_gone e kept =
     let a = kept.element in
     let w = kept.written in
     chosen (is_gone e.id) (record e { deleted = true }) (without_names is_gone e) (λ _. with_deleted e kept true)
-    (with_parts e kept e.deleted e.index e.groups (kept_name is_gone e.frame) (kept_entries is_gone e.bound) (kept_name is_gone e.container) (kept_end is_gone e.start_binding) (kept_end is_gone e.end_binding)
+    (with_parts e kept e.deleted e.index e.groups (kept_name is_gone e.frame) (kept_entries is_gone e.bound)
+    (kept_name is_gone e.container) (kept_end is_gone e.start_binding) (kept_end is_gone e.end_binding)
     w.index w.groups (unless IsUtf8 (is_some_that is_gone e.frame) e.frame w.frame)
     (all_kept_by (λ (entry : BoundRef). not (is_gone entry.id)) HasText e.bound w.bound)
-    (unless _ (is_some_that is_gone e.container) e.container a.container) (unless IsUtf8 (is_some_that is_gone e.container) e.container w.container)
-    (unless _ (is_some_that is_gone (target_of e.start_binding)) e.start_binding a.start_binding) (unless IsBindingText (is_some_that is_gone (target_of e.start_binding)) e.start_binding w.start_binding)
-    (unless _ (is_some_that is_gone (target_of e.end_binding)) e.end_binding a.end_binding) (unless IsBindingText (is_some_that is_gone (target_of e.end_binding)) e.end_binding w.end_binding))
+    (unless _ (is_some_that is_gone e.container) e.container a.container)
+    (unless IsUtf8 (is_some_that is_gone e.container) e.container w.container)
+    (unless _ (is_some_that is_gone (target_of e.start_binding)) e.start_binding a.start_binding)
+    (unless IsBindingText (is_some_that is_gone (target_of e.start_binding)) e.start_binding w.start_binding)
+    (unless _ (is_some_that is_gone (target_of e.end_binding)) e.end_binding a.end_binding)
+    (unless IsBindingText (is_some_that is_gone (target_of e.end_binding)) e.end_binding w.end_binding))
 
 -- ---- listings
-with_listing_entry-text : (entry : BoundRef) (entries : List BoundRef) → IsUtf8 entry.id → AllByRecursion HasText entries → AllByRecursion HasText (with_listing_entry entry entries)
+with_listing_entry-text : (entry : BoundRef) (entries : List BoundRef) → IsUtf8 entry.id
+    → AllByRecursion HasText entries → AllByRecursion HasText (with_listing_entry entry entries)
 with_listing_entry-text entry entries text all =
-    elim (lists entries entry) as (λ (b : Bool). AllByRecursion HasText (if b then entries else entries ++ entry ∷ [])) [
+    elim (lists entries entry) as (λ (b : Bool). AllByRecursion HasText (if b then entries else entries ++ entry
+    ∷ [])) [
       | true ↦ all
       | false ↦ All-append HasText entries (entry ∷ []) all (text, tt)
     ]
 
-listed-kept : (id : Option (List ℕ)) (entry : BoundRef) (e : ElementValue) → IsUtf8 entry.id → IsKept e → IsKept (listed id entry e)
+listed-kept : (id : Option (List ℕ)) (entry : BoundRef) (e : ElementValue) → IsUtf8 entry.id → IsKept e
+    → IsKept (listed id entry e)
 listed-kept id entry e text kept =
     chosen (is_id e.id id) (record e { bound = with_listing_entry entry e.bound }) e
-    (λ _. with_bound e kept (with_listing_entry entry e.bound) (with_listing_entry-text entry e.bound text kept.written.bound)) kept
+    (λ _. with_bound e kept (with_listing_entry entry e.bound)
+    (with_listing_entry-text entry e.bound text kept.written.bound)) kept
 
-unlisted-kept : (id : Option (List ℕ)) (entry : BoundRef) (e : ElementValue) → IsKept e → IsKept (unlisted id entry e)
+unlisted-kept : (id : Option (List ℕ)) (entry : BoundRef) (e : ElementValue) → IsKept e
+    → IsKept (unlisted id entry e)
 unlisted-kept id entry e kept =
     chosen (is_id e.id id) (record e { bound = without_listing_entry entry e.bound }) e
-    (λ _. with_bound e kept (without_listing_entry entry e.bound) (all_kept_by (λ (other : BoundRef). not (same_listing_entry entry other)) HasText e.bound kept.written.bound)) kept
+    (λ _. with_bound e kept (without_listing_entry entry e.bound)
+    (all_kept_by (λ (other : BoundRef). not (same_listing_entry entry other)) HasText e.bound kept.written.bound))
+    kept
 
 -- ---- ends of arrows
 arrow-kind : (kind : Kind) → is_arrow kind ≡ true → kind ≡ kinds.Arrow
@@ -139,24 +159,29 @@ arrow-kind kinds.Iframe h = absurd (false≢true h)
 arrow-kind kinds.Embeddable h = absurd (false≢true h)
 arrow-kind (kinds.Other name) h = absurd (false≢true h)
 
-end-of : (kind : Kind) (binding : Option Binding) → kind ≡ kinds.Arrow → IfSome binding IsBinding → IsEnd kind binding
+end-of : (kind : Kind) (binding : Option Binding) → kind ≡ kinds.Arrow → IfSome binding IsBinding
+    → IsEnd kind binding
 end-of kind None arrow is = tt
 end-of kind (Some binding) arrow is = (arrow, is)
 
-with_end-kept : (side : Side) (binding : Option Binding) (e : ElementValue) → e.kind ≡ kinds.Arrow → IfSome binding IsBinding → IfSome binding IsBindingText → IsKept e → IsKept (with_end side binding e)
+with_end-kept : (side : Side) (binding : Option Binding) (e : ElementValue) → e.kind ≡ kinds.Arrow
+    → IfSome binding IsBinding → IfSome binding IsBindingText → IsKept e → IsKept (with_end side binding e)
 with_end-kept Start binding e arrow is text kept = with_start e kept binding (end-of e.kind binding arrow is) text
 with_end-kept End binding e arrow is text kept = with_end' e kept binding (end-of e.kind binding arrow is) text
 
-with_end_of-kept : (arrow : List ℕ) (side : Side) (binding : Option Binding) (e : ElementValue) → IfSome binding IsBinding → IfSome binding IsBindingText → IsKept e → IsKept (with_end_of arrow side binding e)
+with_end_of-kept : (arrow : List ℕ) (side : Side) (binding : Option Binding) (e : ElementValue)
+    → IfSome binding IsBinding → IfSome binding IsBindingText → IsKept e → IsKept (with_end_of arrow side binding e)
 with_end_of-kept arrow side binding e is text kept =
     chosen (bytes_eq arrow e.id && is_arrow e.kind) (with_end side binding e) e
-    (λ t. with_end-kept side binding e (arrow-kind e.kind (and_parts (bytes_eq arrow e.id) (is_arrow e.kind) t).1) is text kept) kept
+    (λ t. with_end-kept side binding e (arrow-kind e.kind (and_parts (bytes_eq arrow e.id) (is_arrow e.kind) t).1) is
+    text kept) kept
 
 nests : (ms : List Member) → AllNest 99 ms → AllNest 118 ms
 nests [] all = tt
 nests (m ∷ ms) all = (nests-more 99 118 m.value (omega arith) all.0, nests ms all.1)
 
-binding-is : (target : List ℕ) (rest : List Member) → IsRest rest → IsBinding (record { target = target; rest = rest })
+binding-is : (target : List ℕ) (rest : List Member) → IsRest rest
+    → IsBinding (record { target = target; rest = rest })
 binding-is target rest is = record { rise = is.rise; free = is.free; nest = nests rest is.nest }
 
 -- ---- texts in containers
@@ -175,27 +200,36 @@ text-kind kinds.Iframe h = absurd (false≢true h)
 text-kind kinds.Embeddable h = absurd (false≢true h)
 text-kind (kinds.Other name) h = absurd (false≢true h)
 
-with_container_of-kept : (text container : List ℕ) (e : ElementValue) → IsUtf8 container → IsKept e → IsKept (with_container_of text container e)
+with_container_of-kept : (text container : List ℕ) (e : ElementValue) → IsUtf8 container → IsKept e
+    → IsKept (with_container_of text container e)
 with_container_of-kept text container e written kept =
-    chosen (bytes_eq text e.id && is_text e.kind) (record e { container = Some container }) (if is_id container e.container then record e { container = None } else e)
-    (λ t. with_container e kept (Some container) (text-kind e.kind (and_parts (bytes_eq text e.id) (is_text e.kind) t).1) written)
-    (chosen (is_id container e.container) (record e { container = None }) e (λ _. with_container e kept None tt tt) kept)
+    chosen (bytes_eq text e.id && is_text e.kind) (record e { container = Some container })
+    (if is_id container e.container then record e { container = None } else e)
+    (λ t. with_container e kept (Some container)
+    (text-kind e.kind (and_parts (bytes_eq text e.id) (is_text e.kind) t).1) written)
+    (chosen (is_id container e.container) (record e { container = None }) e (λ _. with_container e kept None tt tt)
+    kept)
 
-with_text_of-kept : (text container : List ℕ) (e : ElementValue) → IsUtf8 text → IsKept e → IsKept (with_text_of text container e)
+with_text_of-kept : (text container : List ℕ) (e : ElementValue) → IsUtf8 text → IsKept e
+    → IsKept (with_text_of text container e)
 with_text_of-kept text container e written kept =
     chosen (bytes_eq container e.id) (record e { bound = with_text_alone text e.bound }) e
     (λ _. with_bound e kept (with_text_alone text e.bound)
     (with_listing_entry-text (text_entry text) (without_other_texts text e.bound) written
-    (all_kept_by (λ (other : BoundRef). not (is_for_text other.role) || bytes_eq text other.id) HasText e.bound kept.written.bound)))
+    (all_kept_by (λ (other : BoundRef). not (is_for_text other.role) || bytes_eq text other.id) HasText e.bound
+    kept.written.bound)))
     kept
 
 without_container_of-kept : (text : List ℕ) (e : ElementValue) → IsKept e → IsKept (without_container_of text e)
-without_container_of-kept text e kept = chosen (bytes_eq text e.id) (record e { container = None }) e (λ _. with_container e kept None tt tt) kept
+without_container_of-kept text e kept =
+    chosen (bytes_eq text e.id) (record e { container = None }) e (λ _. with_container e kept None tt tt) kept
 
 -- ---- groups
-with_group-text : (group : List ℕ) (groups : List (List ℕ)) → IsUtf8 group → AllByRecursion IsUtf8 groups → AllByRecursion IsUtf8 (with_group group groups)
+with_group-text : (group : List ℕ) (groups : List (List ℕ)) → IsUtf8 group → AllByRecursion IsUtf8 groups
+    → AllByRecursion IsUtf8 (with_group group groups)
 with_group-text group groups text all =
-    elim (is_among groups group) as (λ (b : Bool). AllByRecursion IsUtf8 (if b then groups else groups ++ group ∷ [])) [
+    elim (is_among groups group) as (λ (b : Bool). AllByRecursion IsUtf8 (if b then groups else groups ++ group
+    ∷ [])) [
       | true ↦ all
       | false ↦ All-append IsUtf8 groups (group ∷ []) all (text, tt)
     ]
@@ -210,42 +244,57 @@ unguarded : (b : Bool) (refusal : Refusal) → refusal_if b refusal ≡ None →
 unguarded true refusal h = cc
 unguarded false refusal h = refl
 
-pub effect-kept : (stored shown : List ElementValue) (command : Command) (e : ElementValue) → AreKept shown → HaveRisingKeys shown → IsWithinLimits command → IsWrittenCommand command → guarded command ≡ None → IsKept e → IsKept (effect stored shown command e)
-effect-kept stored shown (commands.Create element spot) e all rise limits written free kept = with_view_key-kept shown e all kept
+pub effect-kept : (stored shown : List ElementValue) (command : Command) (e : ElementValue) → AreKept shown
+    → HaveRisingKeys shown → IsWithinLimits command → IsWrittenCommand command → guarded command ≡ None → IsKept e
+    → IsKept (effect stored shown command e)
+effect-kept stored shown (commands.Create element spot) e all rise limits written free kept =
+    with_view_key-kept shown e all kept
 effect-kept stored shown (commands.Set id name value) e all rise limits written free kept =
     chosen (bytes_eq id e.id) (with_set_member name value e) e
     (λ _. with_set_member-kept name value e (unguarded (is_protected name) _ free) limits written kept) kept
-effect-kept stored shown (commands.Delete ids) e all rise limits written free kept = deleted_from-kept (is_among ids) e kept
+effect-kept stored shown (commands.Delete ids) e all rise limits written free kept =
+    deleted_from-kept (is_among ids) e kept
 effect-kept stored shown (commands.Place id spot) e all rise limits written free kept =
     let key = key_at shown spot (Some id) (key_in shown id) in
     chosen (bytes_eq id e.id) (record (with_view_key shown e) { index = key }) (with_view_key shown e)
-    (λ _. with_index (with_view_key shown e) (with_view_key-kept shown e all kept) key (key_at-is shown spot (Some id) (key_in shown id) all rise (key_in-is shown id all)))
+    (λ _. with_index (with_view_key shown e) (with_view_key-kept shown e all kept) key
+    (key_at-is shown spot (Some id) (key_in shown id) all rise (key_in-is shown id all)))
     (with_view_key-kept shown e all kept)
 effect-kept stored shown (commands.Bind arrow side target rest) e all rise limits written free kept =
     let binding : Option Binding = Some (record { target = target; rest = rest }) in
     let ended = with_end_of arrow side binding e in
-    unlisted-kept (apart_from (Some target) (old_target stored arrow side)) (arrow_entry arrow) (listed (Some target) (arrow_entry arrow) ended)
+    unlisted-kept (apart_from (Some target) (old_target stored arrow side)) (arrow_entry arrow)
+    (listed (Some target) (arrow_entry arrow) ended)
     (listed-kept (Some target) (arrow_entry arrow) ended written.0
-    (with_end_of-kept arrow side binding e (binding-is target rest limits) (record { target = written.1; rest = written.2 }) kept))
+    (with_end_of-kept arrow side binding e (binding-is target rest limits)
+    (record { target = written.1; rest = written.2 }) kept))
 effect-kept stored shown (commands.Unbind arrow side) e all rise limits written free kept =
-    unlisted-kept (apart_from None (old_target stored arrow side)) (arrow_entry arrow) (with_end_of arrow side None e) (with_end_of-kept arrow side None e tt tt kept)
+    unlisted-kept (apart_from None (old_target stored arrow side)) (arrow_entry arrow)
+    (with_end_of arrow side None e)
+    (with_end_of-kept arrow side None e tt tt kept)
 effect-kept stored shown (commands.Label container text) e all rise limits written free kept =
     let named = with_container_of text container e in
-    unlisted-kept (apart_from (Some container) (old_container stored text)) (text_entry text) (with_text_of text container named)
+    unlisted-kept (apart_from (Some container) (old_container stored text)) (text_entry text)
+    (with_text_of text container named)
     (with_text_of-kept text container named written.1 (with_container_of-kept text container e written.0 kept))
 effect-kept stored shown (commands.Unlabel text) e all rise limits written free kept =
-    unlisted-kept (old_container stored text) (text_entry text) (without_container_of text e) (without_container_of-kept text e kept)
+    unlisted-kept (old_container stored text) (text_entry text) (without_container_of text e)
+    (without_container_of-kept text e kept)
 effect-kept stored shown (commands.Frame ids frame) e all rise limits written free kept =
     chosen (is_among ids e.id) (record e { frame = Some frame }) e (λ _. with_frame e kept (Some frame) written) kept
 effect-kept stored shown (commands.Unframe ids) e all rise limits written free kept =
     chosen (is_among ids e.id) (record e { frame = None }) e (λ _. with_frame e kept None tt) kept
 effect-kept stored shown (commands.Group ids group) e all rise limits written free kept =
     chosen (is_among ids e.id) (record e { groups = with_group group e.groups }) e
-    (λ _. with_groups e kept (with_group group e.groups) (with_group-text group e.groups written kept.written.groups)) kept
+    (λ _. with_groups e kept (with_group group e.groups)
+    (with_group-text group e.groups written kept.written.groups))
+    kept
 effect-kept stored shown (commands.Ungroup ids group) e all rise limits written free kept =
     chosen (is_among ids e.id) (record e { groups = without_group group e.groups }) e
-    (λ _. with_groups e kept (without_group group e.groups) (all_kept_by (λ other. not (bytes_eq group other)) IsUtf8 e.groups kept.written.groups)) kept
+    (λ _. with_groups e kept (without_group group e.groups)
+    (all_kept_by (λ other. not (bytes_eq group other)) IsUtf8 e.groups kept.written.groups)) kept
 effect-kept stored shown (commands.Duplicate ids prefix spot) e all rise limits written free kept =
-    with_view_key-kept (settled_for (shown_among ids shown) shown) e (settled_for-kept (shown_among ids shown) shown all) kept
+    with_view_key-kept (settled_for (shown_among ids shown) shown) e
+    (settled_for-kept (shown_among ids shown) shown all) kept
 effect-kept stored shown (commands.Paste elements prefix spot) e all rise limits written free kept =
     with_view_key-kept (settled_for elements shown) e (settled_for-kept elements shown all) kept

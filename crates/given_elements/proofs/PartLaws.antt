@@ -9,11 +9,14 @@ use Rattle.delta.specs.Rest.{with_value}
 use Rattle.delta.proofs.CallerLemmas.{IsElement-rest}
 
 module _ (e : ElementValue) (kept : IsKept e) where
-  pub with_rest : (name value : List ℕ) → is_header e.kind name ≡ false → IsCompact 119 value → AllByRecursion IsUtf8 (names (with_value name (Some value) e.rest)) → IsKept (record e { rest = with_value name (Some value) e.rest })
+  pub with_rest : (name value : List ℕ) → is_header e.kind name ≡ false → IsCompact 119 value
+      → AllByRecursion IsUtf8 (names (with_value name (Some value) e.rest))
+      → IsKept (record e { rest = with_value name (Some value) e.rest })
   with_rest name value free compact texts =
       let w = kept.written in
       record {
-        element = IsElement-rest e name (Some value) (with_value name (Some value) e.rest) kept.element free compact refl;
+        element =
+            IsElement-rest e name (Some value) (with_value name (Some value) e.rest) kept.element free compact refl;
         written = record {
           id = w.id;
           kind = w.kind;

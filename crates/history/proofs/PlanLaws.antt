@@ -22,45 +22,57 @@ use Rattle.history.specs.Steps.{IsSeen, IsStep, IsLeastFull}
 pub reverse-cons : {X : Type 0} (x : X) (xs : List X) → reverse (x ∷ xs) ≡ reverse xs ++ x ∷ []
 reverse-cons x xs = reverse_aux-eq xs (x ∷ [])
 
-at-place : {X : Type 0} (xs : List X) (k : ℕ) → k < length xs → (x : X) × (take (suc k) xs ≡ take k xs ++ x ∷ []) × (drop k xs ≡ x ∷ drop (suc k) xs)
+at-place : {X : Type 0} (xs : List X) (k : ℕ) → k < length xs → (x : X) × (take (suc k) xs ≡ take k xs ++ x ∷ [])
+    × (drop k xs ≡ x ∷ drop (suc k) xs)
 at-place [] k l = absurd (omega arith)
 at-place (x ∷ xs) zero l = (x, refl, refl)
 at-place (y ∷ xs) (suc k) l = let r = at-place xs k (omega arith) in (r.0, ap (λ ys. y ∷ ys) r.1, r.2)
 
 -- the last entry below so many last ones
-pub split-last : {X : Type 0} (xs : List X) (i : ℕ) → i < length xs → (x : X) × (take (length xs - i) xs ≡ take (length xs - (i + 1)) xs ++ x ∷ []) × (drop (length xs - (i + 1)) xs ≡ x ∷ drop (length xs - i) xs)
+pub split-last : {X : Type 0} (xs : List X) (i : ℕ) → i < length xs → (x : X)
+    × (take (length xs - i) xs ≡ take (length xs - (i + 1)) xs ++ x ∷ [])
+    × (drop (length xs - (i + 1)) xs ≡ x ∷ drop (length xs - i) xs)
 split-last xs i l =
     let more : length xs - i ≡ suc (length xs - (i + 1)) = omega arith in
     let r = at-place xs (length xs - (i + 1)) (omega arith) in
     (r.0, ap (λ n. take n xs) more ∙ r.1, r.2 ∙ ap (λ n. r.0 ∷ drop n xs) (sym more))
 
-pub moved-more : (top : List (List Delta)) (entry : List Delta) → map inverses (reverse (entry ∷ top)) ≡ map inverses (reverse top) ++ inverses entry ∷ []
+pub moved-more : (top : List (List Delta)) (entry : List Delta)
+    → map inverses (reverse (entry ∷ top)) ≡ map inverses (reverse top) ++ inverses entry ∷ []
 moved-more top entry = ap (map inverses) (reverse-cons entry top) ∙ map-append inverses (reverse top) (entry ∷ [])
 
-drop-behind : {X : Type 0} (below : List X) (x : X) (above : List X) → drop (suc (length below)) (below ++ x ∷ above) ≡ above
+drop-behind : {X : Type 0} (below : List X) (x : X) (above : List X) → drop (suc (length below)) (below ++ x ∷ above)
+    ≡ above
 drop-behind [] x above = refl
 drop-behind (y ∷ below) x above = drop-behind below x above
 
 -- what is below and above an entry, by the number of those above
-pub seam-below : {X : Type 0} (xs below : List X) (x : X) (above : List X) (n : ℕ) → xs ≡ below ++ x ∷ above → n ≡ length above → take (length xs - (n + 1)) xs ≡ below
+pub seam-below : {X : Type 0} (xs below : List X) (x : X) (above : List X) (n : ℕ) → xs ≡ below ++ x ∷ above
+    → n ≡ length above → take (length xs - (n + 1)) xs ≡ below
 seam-below xs below x above n e c =
     let long : length (below ++ x ∷ above) - (n + 1) ≡ length below = omega (arith, length-append below (x ∷ above)) in
-    ap (λ ys. take (length ys - (n + 1)) ys) e ∙ ap (λ k. take k (below ++ x ∷ above)) long ∙ take-append_seam below (x ∷ above)
+    ap (λ ys. take (length ys - (n + 1)) ys) e ∙ ap (λ k. take k (below ++ x ∷ above)) long
+    ∙ take-append_seam below (x ∷ above)
 
-pub seam-above : {X : Type 0} (xs below : List X) (x : X) (above : List X) (n : ℕ) → xs ≡ below ++ x ∷ above → n ≡ length above → drop (length xs - n) xs ≡ above
+pub seam-above : {X : Type 0} (xs below : List X) (x : X) (above : List X) (n : ℕ) → xs ≡ below ++ x ∷ above
+    → n ≡ length above → drop (length xs - n) xs ≡ above
 seam-above xs below x above n e c =
     let long : length (below ++ x ∷ above) - n ≡ suc (length below) = omega (arith, length-append below (x ∷ above)) in
     ap (λ ys. drop (length ys - n) ys) e ∙ ap (λ k. drop k (below ++ x ∷ above)) long ∙ drop-behind below x above
 
-drop-head : {X : Type 0} (xs : List X) (k : ℕ) (x : X) → k < length xs → x ≡ get_or xs k x → drop k xs ≡ x ∷ drop (suc k) xs
+drop-head : {X : Type 0} (xs : List X) (k : ℕ) (x : X) → k < length xs → x ≡ get_or xs k x
+    → drop k xs ≡ x ∷ drop (suc k) xs
 drop-head [] k x l here = absurd (omega arith)
 drop-head (y ∷ ys) zero x l here = ap (λ z. z ∷ ys) (sym here)
 drop-head (y ∷ ys) (suc k) x l here = drop-head ys k x (omega arith) here
 
 -- one more entry that isn't seen, at the index below
-pub unseen-below : (store : List ElementValue) (stack : List (List Delta)) (k count : ℕ) (entry : List Delta) → count ≡ suc k → k < length stack → entry ≡ get_or stack k entry → ¬ (IsSeen store entry) → AreUnseen store (drop count stack) → AreUnseen store (drop k stack)
+pub unseen-below : (store : List ElementValue) (stack : List (List Delta)) (k count : ℕ) (entry : List Delta)
+    → count ≡ suc k → k < length stack → entry ≡ get_or stack k entry → ¬ (IsSeen store entry)
+    → AreUnseen store (drop count stack) → AreUnseen store (drop k stack)
 unseen-below store stack k count entry more l here not unseen parts among =
-    elim (Contains-cases entry (drop (suc k) stack) parts (subst (λ xs. Contains xs parts) (drop-head stack k entry l here) among)) [
+    elim (Contains-cases entry (drop (suc k) stack) parts
+    (subst (λ xs. Contains xs parts) (drop-head stack k entry l here) among)) [
       | inl same ↦ subst (λ e. ¬ (IsSeen store e)) same not
       | inr later ↦ unseen parts (subst (λ n. Contains (drop n stack) parts) (sym more) later)
     ]
@@ -72,7 +84,8 @@ ok-same a b e = cc
 pub with-none : (entry : List Delta) (stack : List (List Delta)) → entry ≡ [] → with_entry entry stack ≡ stack
 with-none entry stack none = ap (λ e. with_entry e stack) none
 
-pub with-more : (entry : List Delta) (stack : List (List Delta)) → (entry ≡ [] → ⊥) → with_entry entry stack ≡ stack ++ entry ∷ []
+pub with-more : (entry : List Delta) (stack : List (List Delta)) → (entry ≡ [] → ⊥)
+    → with_entry entry stack ≡ stack ++ entry ∷ []
 with-more [] stack some = absurd (some refl)
 with-more (part ∷ parts) stack some = refl
 
@@ -90,50 +103,65 @@ noted-none entry stacks none = ap (λ e. noted e stacks) none
 -- ---- plans
 module _ (store : List ElementValue) (time nonce : ℕ) where
   -- a planned step is one, from the stacks as they are to those that put leaves
-  stepped-from : (from to : List (List Delta)) (given : List ElementValue) (made : List Delta) (passed : ℕ) → IsPlanned store time nonce from given made passed → HasStepped store time nonce given from to (below_last (passed + 1) from) (grown_by passed made from to)
+  stepped-from : (from to : List (List Delta)) (given : List ElementValue) (made : List Delta) (passed : ℕ)
+      → IsPlanned store time nonce from given made passed
+      → HasStepped store time nonce given from to (below_last (passed + 1) from) (grown_by passed made from to)
   stepped-from from to given made passed plan = record {
     parts = plan.parts;
     above = plan.above;
     made = made;
     topmost = record {
-      split = plan.topmost.split ∙ ap (λ xs. xs ++ plan.parts ∷ plan.above) (sym (seam-below from plan.below plan.parts plan.above passed plan.topmost.split plan.count));
+      split = plan.topmost.split ∙ ap (λ xs. xs ++ plan.parts ∷ plan.above)
+          (sym (seam-below from plan.below plan.parts plan.above passed plan.topmost.split plan.count));
       seen = plan.topmost.seen;
       unseen = plan.topmost.unseen;
     };
-    pushed = ap (λ xs. to ++ (map inverses (reverse xs) ++ made ∷ [])) (seam-above from plan.below plan.parts plan.above passed plan.topmost.split plan.count);
+    pushed = ap (λ xs. to ++ (map inverses (reverse xs) ++ made ∷ []))
+        (seam-above from plan.below plan.parts plan.above passed plan.topmost.split plan.count);
     step = plan.step;
   }
 
-  taken-back : (direction : Direction) (stacks : Stacks) (given : List ElementValue) (made : List Delta) (passed : ℕ) → IsPlanned store time nonce (side direction stacks) given made passed → HasTakenBack direction store time nonce given stacks (stepped direction passed (Some made) stacks)
+  taken-back : (direction : Direction) (stacks : Stacks) (given : List ElementValue) (made : List Delta) (passed : ℕ)
+      → IsPlanned store time nonce (side direction stacks) given made passed
+      → HasTakenBack direction store time nonce given stacks (stepped direction passed (Some made) stacks)
   taken-back Undo stacks given made passed plan = stepped-from stacks.undo stacks.redo given made passed plan
   taken-back Redo stacks given made passed plan = stepped-from stacks.redo stacks.undo given made passed plan
 
-  pub within-planned : (stack : List (List Delta)) (given : List ElementValue) (made : List Delta) (passed : ℕ) → IsPlanned store time nonce stack given made passed → passed < length stack
+  pub within-planned : (stack : List (List Delta)) (given : List ElementValue) (made : List Delta) (passed : ℕ)
+      → IsPlanned store time nonce stack given made passed → passed < length stack
   within-planned stack given made passed plan =
       let long = ap length plan.topmost.split ∙ length-append plan.below (plan.parts ∷ plan.above) in
       omega (arith, long, plan.count)
 
   -- one more entry that isn't seen
-  unseen-more : (entry : List Delta) (above : List (List Delta)) → ¬ (IsSeen store entry) → AreUnseen store above → AreUnseen store (above ++ entry ∷ [])
+  unseen-more : (entry : List Delta) (above : List (List Delta)) → ¬ (IsSeen store entry) → AreUnseen store above
+      → AreUnseen store (above ++ entry ∷ [])
   unseen-more entry above not unseen parts among = elim (Contains-push_cases above entry parts among) [
     | inl earlier ↦ unseen parts earlier
     | inr same ↦ subst (λ e. ¬ (IsSeen store e)) same not
   ]
 
-  pub unseen-over : (entry : List Delta) (stack : List (List Delta)) → ¬ (IsSeen store entry) → AreUnseen store stack → AreUnseen store (stack ++ entry ∷ [])
+  pub unseen-over : (entry : List Delta) (stack : List (List Delta)) → ¬ (IsSeen store entry) → AreUnseen store stack
+      → AreUnseen store (stack ++ entry ∷ [])
   unseen-over = unseen-more
 
-  topmost-over : (entry : List Delta) (stack below : List (List Delta)) (parts : List Delta) (above : List (List Delta)) → ¬ (IsSeen store entry) → IsTopmostSeen store stack below parts above → IsTopmostSeen store (stack ++ entry ∷ []) below parts (above ++ entry ∷ [])
+  topmost-over : (entry : List Delta) (stack below : List (List Delta)) (parts : List Delta) (above : List (List Delta))
+      → ¬ (IsSeen store entry) → IsTopmostSeen store stack below parts above
+      → IsTopmostSeen store (stack ++ entry ∷ []) below parts (above ++ entry ∷ [])
   topmost-over entry stack below parts above not top = record {
     split = ap (λ xs. xs ++ entry ∷ []) top.split ∙ append_assoc below (parts ∷ above) (entry ∷ []);
     seen = top.seen;
     unseen = unseen-more entry above not top.unseen;
   }
 
-  topmost-own : (entry : List Delta) (stack : List (List Delta)) → IsSeen store entry → IsTopmostSeen store (stack ++ entry ∷ []) stack entry []
-  topmost-own entry stack seen = record { split = refl; seen = seen; unseen = λ parts among. absurd (omega (arith, among.1)) }
+  topmost-own : (entry : List Delta) (stack : List (List Delta)) → IsSeen store entry
+      → IsTopmostSeen store (stack ++ entry ∷ []) stack entry []
+  topmost-own entry stack seen =
+      record { split = refl; seen = seen; unseen = λ parts among. absurd (omega (arith, among.1)) }
 
-  pub planned-over : (entry : List Delta) (stack : List (List Delta)) (given : List ElementValue) (made : List Delta) (passed : ℕ) → ¬ (IsSeen store entry) → IsPlanned store time nonce stack given made passed → IsPlanned store time nonce (stack ++ entry ∷ []) given made (passed + 1)
+  pub planned-over : (entry : List Delta) (stack : List (List Delta)) (given : List ElementValue) (made : List Delta)
+      (passed : ℕ) → ¬ (IsSeen store entry) → IsPlanned store time nonce stack given made passed
+      → IsPlanned store time nonce (stack ++ entry ∷ []) given made (passed + 1)
   planned-over entry stack given made passed not plan = record {
     below = plan.below;
     parts = plan.parts;
@@ -143,7 +171,9 @@ module _ (store : List ElementValue) (time nonce : ℕ) where
     step = plan.step;
   }
 
-  pub planned-own : (entry : List Delta) (stack : List (List Delta)) (given : List ElementValue) (made : List Delta) → IsSeen store entry → IsStep entry store time nonce given made → IsPlanned store time nonce (stack ++ entry ∷ []) given made 0
+  pub planned-own : (entry : List Delta) (stack : List (List Delta)) (given : List ElementValue) (made : List Delta)
+      → IsSeen store entry → IsStep entry store time nonce given made
+      → IsPlanned store time nonce (stack ++ entry ∷ []) given made 0
   planned-own entry stack given made seen step = record {
     below = stack;
     parts = entry;
@@ -153,7 +183,8 @@ module _ (store : List ElementValue) (time nonce : ℕ) where
     step = step;
   }
 
-  pub stops-over : (entry : List Delta) (stack : List (List Delta)) (id : List ℕ) → ¬ (IsSeen store entry) → StopsAt store stack id → StopsAt store (stack ++ entry ∷ []) id
+  pub stops-over : (entry : List Delta) (stack : List (List Delta)) (id : List ℕ) → ¬ (IsSeen store entry)
+      → StopsAt store stack id → StopsAt store (stack ++ entry ∷ []) id
   stops-over entry stack id not stops = record {
     below = stops.below;
     parts = stops.parts;
@@ -162,7 +193,8 @@ module _ (store : List ElementValue) (time nonce : ℕ) where
     full = stops.full;
   }
 
-  pub stops-own : (entry : List Delta) (stack : List (List Delta)) (id : List ℕ) → IsSeen store entry → IsLeastFull entry store id → StopsAt store (stack ++ entry ∷ []) id
+  pub stops-own : (entry : List Delta) (stack : List (List Delta)) (id : List ℕ) → IsSeen store entry
+      → IsLeastFull entry store id → StopsAt store (stack ++ entry ∷ []) id
   stops-own entry stack id seen full = record {
     below = stack;
     parts = entry;
@@ -172,13 +204,20 @@ module _ (store : List ElementValue) (time nonce : ℕ) where
   }
 
   -- the topmost one stands at an index
-  topmost-at : (stack : List (List Delta)) (i : ℕ) (is : IsSeenAt store stack i) → IsTopmostSeen store stack (take i stack) is.parts (drop (i + 1) stack)
-  topmost-at stack i is = record { split = parted stack i is.parts is.at ∙ ap (λ n. take i stack ++ is.parts ∷ drop n stack) (one i); seen = is.seen; unseen = is.unseen }
+  topmost-at : (stack : List (List Delta)) (i : ℕ) (is : IsSeenAt store stack i)
+      → IsTopmostSeen store stack (take i stack) is.parts (drop (i + 1) stack)
+  topmost-at stack i is = record {
+    split = parted stack i is.parts is.at
+        ∙ ap (λ n. take i stack ++ is.parts ∷ drop n stack) (one i);
+    seen = is.seen;
+    unseen = is.unseen;
+  }
     where
       one : (i : ℕ) → suc i ≡ i + 1
       one i = omega arith
 
-      parted : {X : Type 0} (xs : List X) (i : ℕ) (x : X) → slice_get xs i ≡ Some x → xs ≡ take i xs ++ x ∷ drop (suc i) xs
+      parted : {X : Type 0} (xs : List X) (i : ℕ) (x : X) → slice_get xs i ≡ Some x
+          → xs ≡ take i xs ++ x ∷ drop (suc i) xs
       parted [] i x at = absurd (none-some x at)
         where
           none-some : {X : Type 0} (x : X) → None ≡ Some x → ⊥
@@ -189,7 +228,9 @@ module _ (store : List ElementValue) (time nonce : ℕ) where
           some-same a b e = cc
       parted (y ∷ ys) (suc i) x at = ap (λ zs. y ∷ zs) (parted ys i x at)
 
-  pub planned-at : (stack : List (List Delta)) (i : ℕ) (given : List ElementValue) (made entry : List Delta) (passed : ℕ) (is : IsSeenAt store stack i) → slice_get stack i ≡ Some entry → passed ≡ length (drop (i + 1) stack) → IsStep entry store time nonce given made → IsPlanned store time nonce stack given made passed
+  pub planned-at : (stack : List (List Delta)) (i : ℕ) (given : List ElementValue) (made entry : List Delta)
+      (passed : ℕ) (is : IsSeenAt store stack i) → slice_get stack i ≡ Some entry → passed ≡ length (drop (i + 1) stack)
+      → IsStep entry store time nonce given made → IsPlanned store time nonce stack given made passed
   planned-at stack i given made entry passed is at count step = record {
     below = take i stack;
     parts = is.parts;
@@ -202,7 +243,8 @@ module _ (store : List ElementValue) (time nonce : ℕ) where
       same : {X : Type 0} (a b : X) → Some a ≡ Some b → a ≡ b
       same a b e = cc
 
-  pub stops-at : (stack : List (List Delta)) (i : ℕ) (entry : List Delta) (id : List ℕ) (is : IsSeenAt store stack i) → slice_get stack i ≡ Some entry → IsLeastFull entry store id → StopsAt store stack id
+  pub stops-at : (stack : List (List Delta)) (i : ℕ) (entry : List Delta) (id : List ℕ) (is : IsSeenAt store stack i)
+      → slice_get stack i ≡ Some entry → IsLeastFull entry store id → StopsAt store stack id
   stops-at stack i entry id is at full = record {
     below = take i stack;
     parts = is.parts;
@@ -221,27 +263,44 @@ module _ (store : List ElementValue) (time nonce : ℕ) where
   done-same : (a b : List ElementValue) → steps.Done a ≡ steps.Done b → a ≡ b
   done-same a b e = cc
 
-  module _ (stacks : Stacks) (pending : List Delta) (direction : Direction) (plan : Option Plan) (r : HistoryStep × Step)
-      (none : plan ≡ None → r ≡ (record { pending = pending; made = None; direction = direction; passed = 0 }, steps.Nothing))
-      (some : (p : Plan) → plan ≡ Some p → r ≡ (record { pending = pending; made = Some p.made; direction = direction; passed = p.passed }, steps.Done p.given))
+  module _ (stacks : Stacks) (pending : List Delta) (direction : Direction) (plan : Option Plan) (r : HistoryStep
+      × Step)
+      (none : plan ≡ None → r ≡ (
+        record { pending = pending; made = None; direction = direction; passed = 0 },
+        steps.Nothing,
+      ))
+      (some : (p : Plan) → plan ≡ Some p → r
+      ≡ (
+        record { pending = pending; made = Some p.made; direction = direction; passed = p.passed },
+        steps.Done p.given,
+      ))
       (unseen : plan ≡ None → AreUnseen store (side direction (noted pending stacks)))
-      (planned : IfSome plan (λ p. IsPlanned store time nonce (side direction (noted pending stacks)) p.given p.made p.passed)) where
+      (planned : IfSome plan (λ p. IsPlanned store time nonce (side direction (noted pending stacks)) p.given p.made
+      p.passed)) where
     pub nothing-planned : (r.1 ≡ steps.Nothing) ↔ AreUnseen store (side direction (noted pending stacks))
-    nothing-planned = elim plan as (λ o. plan ≡ o → (r.1 ≡ steps.Nothing) ↔ AreUnseen store (side direction (noted pending stacks))) [
-      | None ↦ λ is. (λ e. unseen is, λ u. ap (λ (x : HistoryStep × Step). x.1) (none is))
-      | Some p ↦ λ is.
-          let it = subst (λ o. IfSome o (λ p. IsPlanned store time nonce (side direction (noted pending stacks)) p.given p.made p.passed)) is planned in (
-            λ e. absurd (nothing-done p.given (sym e ∙ ap (λ (x : HistoryStep × Step). x.1) (some p is))),
-            λ u. absurd (u it.parts (subst (λ stack. Contains stack it.parts) (sym it.topmost.split) (Contains-append_right it.below (it.parts ∷ it.above) it.parts (0, omega arith, refl))) it.topmost.seen),
-          )
-    ] refl
+    nothing-planned =
+        elim plan as (λ o. plan ≡ o → (r.1 ≡ steps.Nothing) ↔ AreUnseen store (side direction (noted pending stacks))) [
+          | None ↦ λ is. (λ e. unseen is, λ u. ap (λ (x : HistoryStep × Step). x.1) (none is))
+          | Some p ↦ λ is.
+              let it =
+              subst (λ o. IfSome o (λ p. IsPlanned store time nonce (side direction (noted pending stacks)) p.given
+              p.made p.passed)) is planned in (
+                λ e. absurd (nothing-done p.given (sym e ∙ ap (λ (x : HistoryStep × Step). x.1) (some p is))),
+                λ u. absurd (u it.parts (subst (λ stack. Contains stack it.parts) (sym it.topmost.split)
+                    (Contains-append_right it.below (it.parts ∷ it.above) it.parts (0, omega arith, refl)))
+                    it.topmost.seen),
+              )
+        ] refl
 
     pub fits-planned : FitsIn r.0 stacks
     fits-planned = elim plan as (λ o. plan ≡ o → FitsIn r.0 stacks) [
       | None ↦ λ is. subst (λ (x : HistoryStep × Step). FitsIn x.0 stacks) (sym (none is)) tt
       | Some p ↦ λ is.
-          let it = subst (λ o. IfSome o (λ p. IsPlanned store time nonce (side direction (noted pending stacks)) p.given p.made p.passed)) is planned in
-          subst (λ (x : HistoryStep × Step). FitsIn x.0 stacks) (sym (some p is)) (within-planned (side direction (noted pending stacks)) p.given p.made p.passed it)
+          let it =
+          subst (λ o. IfSome o (λ p. IsPlanned store time nonce (side direction (noted pending stacks)) p.given
+          p.made p.passed)) is planned in
+          subst (λ (x : HistoryStep × Step). FitsIn x.0 stacks) (sym (some p is))
+          (within-planned (side direction (noted pending stacks)) p.given p.made p.passed it)
     ] refl
 
     pub kept-planned : (step : HistoryStep) → r ≡ (step, steps.Nothing) → put_step step stacks ≡ noted pending stacks
@@ -250,11 +309,17 @@ module _ (store : List ElementValue) (time nonce : ℕ) where
       | Some p ↦ λ is. absurd (nothing-done p.given (ap (λ (x : HistoryStep × Step). x.1) (sym e ∙ some p is)))
     ] refl
 
-    pub done-planned : (step : HistoryStep) (given : List ElementValue) → r ≡ (step, steps.Done given) → HasTakenBack direction store time nonce given (noted pending stacks) (put_step step stacks)
-    done-planned step given e = elim plan as (λ o. plan ≡ o → HasTakenBack direction store time nonce given (noted pending stacks) (put_step step stacks)) [
-      | None ↦ λ is. absurd (nothing-done given (ap (λ (x : HistoryStep × Step). x.1) (sym (none is) ∙ e)))
-      | Some p ↦ λ is.
-          subst₂ (λ (s : HistoryStep) g. HasTakenBack direction store time nonce g (noted pending stacks) (put_step s stacks))
-          (ap (λ (x : HistoryStep × Step). x.0) (sym (some p is) ∙ e)) (done-same p.given given (ap (λ (x : HistoryStep × Step). x.1) (sym (some p is) ∙ e)))
-          (taken-back direction (noted pending stacks) p.given p.made p.passed (subst (λ o. IfSome o (λ p. IsPlanned store time nonce (side direction (noted pending stacks)) p.given p.made p.passed)) is planned))
-    ] refl
+    pub done-planned : (step : HistoryStep) (given : List ElementValue) → r ≡ (step, steps.Done given)
+        → HasTakenBack direction store time nonce given (noted pending stacks) (put_step step stacks)
+    done-planned step given e = elim plan as (λ o. plan ≡ o
+        → HasTakenBack direction store time nonce given (noted pending stacks) (put_step step stacks)) [
+          | None ↦ λ is. absurd (nothing-done given (ap (λ (x : HistoryStep × Step). x.1) (sym (none is) ∙ e)))
+          | Some p ↦ λ is.
+              subst₂ (λ (s : HistoryStep) g. HasTakenBack direction store time nonce g (noted pending stacks)
+              (put_step s stacks))
+              (ap (λ (x : HistoryStep × Step). x.0) (sym (some p is) ∙ e))
+              (done-same p.given given (ap (λ (x : HistoryStep × Step). x.1) (sym (some p is) ∙ e)))
+              (taken-back direction (noted pending stacks) p.given p.made p.passed
+              (subst (λ o. IfSome o (λ p. IsPlanned store time nonce (side direction (noted pending stacks)) p.given
+              p.made p.passed)) is planned))
+        ] refl

@@ -29,8 +29,8 @@ other direction = chosen direction Redo Undo
 abbrev pub side : Direction → Stacks → List (List Delta)
 side direction stacks = chosen direction stacks.undo stacks.redo
 
--- A history as contracts see it: its stacks, each of which has room for the entries of both and so many more. "As
--- before" is said of the stacks: room may have grown.
+-- A history as contracts see it: its stacks, each of which has room for the entries of both and so
+-- many more. "As before" is said of the stacks: room may have grown.
 pub record Recorded : Type 0 where
   pub stacks : Stacks
   pub spare : ℕ
@@ -46,7 +46,8 @@ HasStoredIds store parts = (part : Delta) → Contains parts part → IsSome (el
 abbrev pub HaveStoredIds : List ElementValue → List (List Delta) → Type 0
 HaveStoredIds store stack = (parts : List Delta) → Contains stack parts → HasStoredIds store parts
 
--- An entry that isn't empty is the next one to undo, and nothing can be redone; an empty one changes nothing.
+-- An entry that isn't empty is the next one to undo, and nothing can be redone; an empty one
+-- changes nothing.
 abbrev pub with_entry : List Delta → List (List Delta) → List (List Delta)
 with_entry [] stack = stack
 with_entry (part ∷ parts) stack = stack ++ (part ∷ parts) ∷ []
@@ -56,7 +57,8 @@ redo_left [] stack = stack
 redo_left (part ∷ parts) stack = []
 
 abbrev pub noted : List Delta → Stacks → Stacks
-noted entry stacks = record { undo = with_entry entry stacks.undo; redo = redo_left entry stacks.redo }
+noted entry stacks =
+    record { undo = with_entry entry stacks.undo; redo = redo_left entry stacks.redo }
 
 -- None of these entries is seen on the store.
 abbrev pub AreUnseen : List ElementValue → List (List Delta) → Type 0
@@ -69,8 +71,8 @@ pub record IsTopmostSeen (store : List ElementValue) (stack below : List (List D
   pub seen : IsSeen store parts
   pub unseen : AreUnseen store above
 
--- One step took the topmost entry that is seen from one stack. Those above it went to the other stack one after
--- another, inverted, and on them one that takes the step back.
+-- One step took the topmost entry that is seen from one stack. Those above it went to the other
+-- stack one after another, inverted, and on them one that takes the step back.
 pub record HasStepped (store : List ElementValue) (time nonce : ℕ) (given : List ElementValue)
     (from to below grown : List (List Delta)) : Type 0 where
   pub parts : List Delta
@@ -87,8 +89,8 @@ HasTakenBack direction store time nonce given old new =
     HasStepped store time nonce given (side direction old) (side (other direction) old)
     (side direction new) (side (other direction) new)
 
--- The topmost entry of a stack that is seen would change the element of this id, which stands at the greatest version,
--- and no lesser one.
+-- The topmost entry of a stack that is seen would change the element of this id, which stands at
+-- the greatest version, and no lesser one.
 pub record StopsAt (store : List ElementValue) (stack : List (List Delta))
     (id : List ℕ) : Type 0 where
   pub below : List (List Delta)
@@ -117,20 +119,30 @@ grown_by passed made from to = to ++ (map inverses (reverse (last_of passed from
 abbrev pub stepped : Direction → ℕ → Option (List Delta) → Stacks → Stacks
 stepped direction passed None stacks = stacks
 stepped Undo passed (Some made) stacks =
-    record { undo = below_last (passed + 1) stacks.undo; redo = grown_by passed made stacks.undo stacks.redo }
+    record {
+      undo = below_last (passed + 1) stacks.undo;
+      redo =
+          grown_by passed made stacks.undo stacks.redo;
+    }
 stepped Redo passed (Some made) stacks =
-    record { undo = grown_by passed made stacks.redo stacks.undo; redo = below_last (passed + 1) stacks.redo }
+    record {
+      undo = grown_by passed made stacks.redo stacks.undo;
+      redo =
+          below_last (passed + 1) stacks.redo;
+    }
 
--- The stacks once a planned step is put: the pending entry is noted; where an entry was made, the entries that are
--- passed over go to the other stack one after another, inverted, the next one goes, and the made one is put on the
--- other stack.
+-- The stacks once a planned step is put: the pending entry is noted; where an entry was made, the
+-- entries that are passed over go to the other stack one after another, inverted, the next one
+-- goes, and the made one is put on the other stack.
 abbrev pub put_step : HistoryStep → Stacks → Stacks
 put_step step stacks = stepped step.direction step.passed step.made (noted step.pending stacks)
 
--- Where an entry was made, the stack has more entries than are passed over, once the pending one is noted.
+-- Where an entry was made, the stack has more entries than are passed over, once the pending one is
+-- noted.
 abbrev pub FitsIn : HistoryStep → Stacks → Type 0
 FitsIn step stacks =
-    IfSome step.made (λ made. step.passed < length (side step.direction (noted step.pending stacks)))
+    IfSome step.made (λ made. step.passed < length
+    (side step.direction (noted step.pending stacks)))
 
 -- what is planned for a stack: nothing where no entry is seen, or the step from the topmost one
 pub record IsPlanned (store : List ElementValue) (time nonce : ℕ) (stack : List (List Delta))

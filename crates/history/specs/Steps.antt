@@ -1,4 +1,5 @@
--- One step: an entry is taken back from the stored elements. This project's own, after Excalidraw's history.
+-- One step: an entry is taken back from the stored elements. This project's own, after Excalidraw's
+-- history.
 use Rattle.std.specs.Prelude.{◌≡◌, ◌≢◌, ◌⊎◌, ℕ, ◌+◌, List, true, false, Option, Some, None, Contains}
 use Rattle.frac_keys.specs.Keys.{bytes_less}
 use Rattle.frac_keys.specs.Rising.{are_rising}
@@ -25,7 +26,8 @@ pub record Reverts (part : Delta) (now reverted : ElementValue) : Type 0 where
 abbrev pub Differ : ElementValue → ElementValue → Type 0
 Differ now reverted = unstamped now ≢ unstamped reverted
 
--- Applying the inverse of a part changes an element, outside the stamp, that is live before or after.
+-- Applying the inverse of a part changes an element, outside the stamp, that is live before or
+-- after.
 abbrev pub IsSeenPart : Delta → ElementValue → Type 0
 IsSeenPart part now =
     (reverted : ElementValue) × Reverts part now reverted × Differ now reverted
@@ -37,13 +39,14 @@ pub record IsNow (parts : List Delta) (store : List ElementValue) (part : Delta)
   pub among : Contains parts part
   pub stored : element_of store part.id ≡ Some now
 
--- An entry is seen on a store: applying its inverted parts changes, outside the stamp, an element that is live before
--- or after.
+-- An entry is seen on a store: applying its inverted parts changes, outside the stamp, an element
+-- that is live before or after.
 abbrev pub IsSeen : List ElementValue → List Delta → Type 0
 IsSeen store parts =
     (part : Delta) × (now : ElementValue) × IsNow parts store part now × IsSeenPart part now
 
--- The element is what the inverse of a part makes of the stored element, stamped, and differs from that.
+-- The element is what the inverse of a part makes of the stored element, stamped, and differs from
+-- that.
 pub record IsGivenByPart (parts : List Delta) (store : List ElementValue) (time nonce : ℕ)
     (e : ElementValue) : Type 0 where
   pub part : Delta
@@ -54,7 +57,8 @@ pub record IsGivenByPart (parts : List Delta) (store : List ElementValue) (time 
   pub differs : Differ now reverted
   pub is : e ≡ stamped time nonce reverted
 
--- What the inverse of the part makes of the stored element is that one but for the stamp, or is given, stamped.
+-- What the inverse of the part makes of the stored element is that one but for the stamp, or is
+-- given, stamped.
 pub record PartHasGiven (parts : List Delta) (store : List ElementValue) (time nonce : ℕ)
     (given : List ElementValue) (part : Delta) : Type 0 where
   pub now : ElementValue
@@ -63,8 +67,8 @@ pub record PartHasGiven (parts : List Delta) (store : List ElementValue) (time n
   pub reverts : Reverts part now reverted
   pub comes : (unstamped now ≡ unstamped reverted) ⊎ Contains given (stamped time nonce reverted)
 
--- The elements that a step gives: of each part's id what the inverse of the part makes of the stored element, stamped,
--- if it differs; in the order of their ids.
+-- The elements that a step gives: of each part's id what the inverse of the part makes of the
+-- stored element, stamped, if it differs; in the order of their ids.
 pub record AreGiven (parts : List Delta) (store : List ElementValue) (time nonce : ℕ)
     (given : List ElementValue) : Type 0 where
   pub ordered : are_rising (ids_of given) ≡ true
@@ -88,8 +92,8 @@ pub record IsLeastFull (parts : List Delta) (store : List ElementValue) (id : Li
   pub full : IsFullId parts store id
   pub least : (other : List ℕ) → IsFullId parts store other → bytes_less other id ≡ false
 
--- The step that takes an entry back gives these elements, and another entry is that of their changes. No version is
--- full.
+-- The step that takes an entry back gives these elements, and another entry is that of their
+-- changes. No version is full.
 pub record IsStep (parts : List Delta) (store : List ElementValue) (time nonce : ℕ)
     (given : List ElementValue) (made : List Delta) : Type 0 where
   pub gives : AreGiven parts store time nonce given
@@ -102,8 +106,8 @@ pub record StaysSame (part : Delta) (now : ElementValue) : Type 0 where
   pub reverts : Reverts part now reverted
   pub same : unstamped now ≡ unstamped reverted
 
--- This is the new version of the stored element: what the inverse of the part makes of it differs, and no version is
--- full.
+-- This is the new version of the stored element: what the inverse of the part makes of it differs,
+-- and no version is full.
 pub record IsNewVersion (part : Delta) (now : ElementValue) (time nonce : ℕ)
     (e : ElementValue) : Type 0 where
   pub reverted : ElementValue

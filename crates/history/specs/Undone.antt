@@ -34,7 +34,8 @@ pub record IsUndoneOfPair (pairs : List Pair) (store : List ElementValue) (time 
   pub differs : Differ now undone
   pub is : e ≡ stamped time nonce undone
 
--- What undoing the pair makes of the stored element is that one but for the stamp, or is given, stamped.
+-- What undoing the pair makes of the stored element is that one but for the stamp, or is given,
+-- stamped.
 pub record HasUndonePair (pairs : List Pair) (store : List ElementValue) (time nonce : ℕ)
     (given : List ElementValue) (pair : Pair) : Type 0 where
   pub now : ElementValue

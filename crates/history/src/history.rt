@@ -37,7 +37,8 @@ impl Model for History {
 
     ghost view = { λ h. record {
       stacks = record { undo = h.undo.items; redo = h.redo.items };
-      spare = spare_in (vec_capacity h.undo) (vec_capacity h.redo) (vec_len h.undo + vec_len h.redo);
+      spare = spare_in (vec_capacity h.undo) (vec_capacity h.redo)
+          (vec_len h.undo + vec_len h.redo);
     } };
 }
 
@@ -67,7 +68,8 @@ impl History {
         self.redo.len() as u64
     }
 
-    /// Makes room in each stack for the entries of both and one more. The stacks stay, also for want of memory.
+    /// Makes room in each stack for the entries of both and one more. The stacks stay, also for
+    /// want of memory.
     pub fn reserve(&mut self) -> Result<(), AllocError>
         ensures room { OnOk result (0 < self.new.spare) }
         ensures kept { self.old.spare ≤ self.new.spare }
@@ -77,8 +79,9 @@ impl History {
         self.redo.reserve(self.undo.len() + 1)
     }
 
-    /// Makes an entry the next one to undo, after which nothing can be redone. An empty entry changes nothing. For want
-    /// of memory the stacks are unchanged; where there is room it takes none.
+    /// Makes an entry the next one to undo, after which nothing can be redone. An empty entry
+    /// changes nothing. For want of memory the stacks are unchanged; where there is room it takes
+    /// none.
     pub fn note(&mut self, entry: Entry) -> Result<(), AllocError>
         ensures ok { OnOk result (self.new.stacks ≡ noted entry self.old.stacks) }
         ensures room { 0 < self.old.spare → IsOk result }
@@ -89,10 +92,11 @@ impl History {
         Ok(())
     }
 
-    /// Plans to note what is pending and then to undo or to redo. The step and the answer are those of these two calls:
-    /// the topmost entry of the stack that is seen is taken back from the stored elements, and those that change are
-    /// given, stamped with this time and nonce, in the order of their ids. `Nothing` comes exactly where no entry is
-    /// seen. `VersionFull` names the least id of those that would change and stand at the greatest version.
+    /// Plans to note what is pending and then to undo or to redo. The step and the answer are those
+    /// of these two calls: the topmost entry of the stack that is seen is taken back from the
+    /// stored elements, and those that change are given, stamped with this time and nonce, in the
+    /// order of their ids. `Nothing` comes exactly where no entry is seen. `VersionFull` names the
+    /// least id of those that would change and stand at the greatest version.
     pub fn plan(
         &self,
         direction: Direction,
@@ -124,8 +128,8 @@ impl History {
         Ok(step_of(pending, direction, plan))
     }
 
-    /// The plan for the topmost entry that is seen of the stack that a step is from, if there is one, once an entry was
-    /// noted.
+    /// The plan for the topmost entry that is seen of the stack that a step is from, if there is
+    /// one, once an entry was noted.
     fn plan_side(
         &self,
         direction: Direction,
@@ -158,9 +162,9 @@ impl History {
         }
     }
 
-    /// Puts a planned step in place: notes what is pending; where an entry was made, moves the entries that are passed
-    /// over to the other stack, one after another and inverted, takes the next one away, and puts the made one on the
-    /// other stack. It takes no memory.
+    /// Puts a planned step in place: notes what is pending; where an entry was made, moves the
+    /// entries that are passed over to the other stack, one after another and inverted, takes the
+    /// next one away, and puts the made one on the other stack. It takes no memory.
     pub fn put(&mut self, step: HistoryStep)
         requires spare { 0 < self.old.spare }
         requires fits { FitsIn step self.old.stacks }

@@ -15,7 +15,8 @@ ghost use Rattle.history.specs.Steps.{AreGiven};
 ghost use Rattle.history.specs.Undone.{EachIsElement, ArePairsOfElements, AreUndone, ComesBack};
 ghost use Rattle.undoing.specs.Steps.{Turn, step};
 
-/// A step undoes the pairs of elements that its entry stands for: what others changed meanwhile stays.
+/// A step undoes the pairs of elements that its entry stands for: what others changed meanwhile
+/// stays.
 pub fn step_undoes_pairs()
     ensures { (parts : Items Delta) (pairs : Items Pair) (store given : Items ElementValue)
         (time nonce : ℕ)
@@ -23,8 +24,8 @@ pub fn step_undoes_pairs()
         → AreGiven parts store time nonce given → AreUndone pairs store time nonce given }
 {}
 
-/// A step whose entry stands for the change of older elements to the stored ones brings the older ones back, but for
-/// the stamp; those that there weren't are deleted.
+/// A step whose entry stands for the change of older elements to the stored ones brings the older
+/// ones back, but for the stamp; those that there weren't are deleted.
 pub fn step_brings_back()
     ensures { (parts : Items Delta) (old store given : Items ElementValue) (time nonce : ℕ)
         (now : ElementValue)
@@ -50,8 +51,8 @@ pub fn ids_stay_stored_by_taking()
         → HasTaken old e new → HaveStoredIds old stack → HaveStoredIds new stack }
 {}
 
-/// A step from stacks of parts is the step from the stacks of pairs that these stand for: it gives the same elements,
-/// and the stacks after it stand for those after it.
+/// A step from stacks of parts is the step from the stacks of pairs that these stand for: it gives
+/// the same elements, and the stacks after it stand for those after it.
 pub fn step_is_that_of_the_pairs()
     ensures done { (stored given : Items ElementValue) (time nonce : ℕ)
         (from to below grown : Items (Items Delta))
@@ -72,8 +73,8 @@ pub fn step_is_that_of_the_pairs()
         → StopsAt stored from id → step stored time nonce old_from old_to ≡ Some (Err id) }
 {}
 
-/// What a step gives are elements in the order of their ids. Each of the ids is stored, and each element becomes
-/// stored.
+/// What a step gives are elements in the order of their ids. Each of the ids is stored, and each
+/// element becomes stored.
 pub fn what_a_step_gives_is_taken()
     ensures elements { (stored given : Items ElementValue) (time nonce : ℕ)
         (from to below grown : Items (Items Delta)) (old_from : Items (Items Pair))

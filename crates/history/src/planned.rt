@@ -17,8 +17,8 @@ pub enum Direction {
     Redo,
 }
 
-/// A step that is planned: what is pending and is noted first, the entry that takes the step back, which stack it is
-/// from, and how many entries it passes over.
+/// A step that is planned: what is pending and is noted first, the entry that takes the step back,
+/// which stack it is from, and how many entries it passes over.
 #[derive(Drop)]
 pub struct HistoryStep {
     pub pending: Entry,
@@ -27,8 +27,8 @@ pub struct HistoryStep {
     pub passed: u64,
 }
 
-/// What taking the topmost seen entry of a stack back comes to: the elements that change, the entry that takes that
-/// back, and how many entries are passed over.
+/// What taking the topmost seen entry of a stack back comes to: the elements that change, the entry
+/// that takes that back, and how many entries are passed over.
 #[derive(Drop)]
 pub(crate) struct Plan {
     pub(crate) given: List<Element>,
@@ -80,8 +80,8 @@ pub(crate) fn step_of(
     }
 }
 
-/// Makes an entry the next one to undo, after which nothing can be redone; an empty one changes nothing. It takes no
-/// memory.
+/// Makes an entry the next one to undo, after which nothing can be redone; an empty one changes
+/// nothing. It takes no memory.
 pub(crate) fn note_within(undo: &mut Vec<Entry>, redo: &mut Vec<Entry>, entry: Entry)
     requires { vec_len undo.old < vec_capacity undo.old }
     ensures undo { undo.new.items ≡ with_entry entry undo.old.items }
@@ -97,8 +97,8 @@ pub(crate) fn note_within(undo: &mut Vec<Entry>, redo: &mut Vec<Entry>, entry: E
     redo.clear();
 }
 
-/// Moves the last entries of a stack to the other one, one after another and inverted; takes the next one away, and
-/// puts the made one on the other stack. It takes no memory.
+/// Moves the last entries of a stack to the other one, one after another and inverted; takes the
+/// next one away, and puts the made one on the other stack. It takes no memory.
 pub(crate) fn shift(from: &mut Vec<Entry>, to: &mut Vec<Entry>, passed: u64, made: Entry)
     requires count { passed < vec_len from.old }
     requires room { vec_len from.old + vec_len to.old ≤ vec_capacity to.old }

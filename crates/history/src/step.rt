@@ -28,8 +28,8 @@ pub enum Step {
     Nothing,
 }
 
-/// The plan for the topmost entry of a stack that is seen, if there is one, once an entry that isn't empty was put on
-/// it.
+/// The plan for the topmost entry of a stack that is seen, if there is one, once an entry that
+/// isn't empty was put on it.
 pub(crate) fn plan_noted(
     alloc: Global,
     pending: &Entry,
@@ -67,7 +67,8 @@ pub(crate) fn is_nothing(entry: &Entry) -> bool
     entry.parts.as_slice().is_empty()
 }
 
-/// The plan for the topmost entry of a stack that is seen, if there is one, once an entry was put on it.
+/// The plan for the topmost entry of a stack that is seen, if there is one, once an entry was put
+/// on it.
 fn plan_over(
     alloc: Global,
     pending: &Entry,
@@ -182,7 +183,8 @@ fn is_seen(alloc: Global, entry: &Entry, store: &Store) -> Result<bool, AllocErr
     Ok(false)
 }
 
-/// Whether the inverse of a part changes an element, outside the stamp, that is live before or after.
+/// Whether the inverse of a part changes an element, outside the stamp, that is live before or
+/// after.
 fn is_part_seen(alloc: Global, part: &Part, now: &Element) -> Result<bool, AllocError>
     requires { part.now.id ≡ now.now.id }
     ensures seen { IfOk result (λ seen. seen ≡ true → IsSeenPart part.now now.now) }

@@ -16,7 +16,8 @@ use Rattle.elem.proofs.CallerLemmas.{IsKept, AreKept, kept-from, kept-to}
 -- ---- keys
 pub kept-keys : (es : List ElementValue) → AreKept es → HaveKeysOrNone es
 kept-keys [] all = refl
-kept-keys (e ∷ es) all = and_from (is_key_or_none e.index) (list_all is_key_or_none (map index_of es)) (by e.index all.0.written.index) (kept-keys es all.1)
+kept-keys (e ∷ es) all = and_from (is_key_or_none e.index) (list_all is_key_or_none (map index_of es))
+    (by e.index all.0.written.index) (kept-keys es all.1)
   where
     by : (key : Option (List ℕ)) → IfSome key (λ k. is_key k ≡ true) → is_key_or_none key ≡ true
     by None is = refl
@@ -25,7 +26,8 @@ kept-keys (e ∷ es) all = and_from (is_key_or_none e.index) (list_all is_key_or
 with_index-kept : (e : ElementValue) (key : List ℕ) → is_key key ≡ true → IsKept e → IsKept (with_index e key)
 with_index-kept e key is kept = parts.with_index e kept (Some key) is
 
-keyed-kept : (es : List ElementValue) (keys : List (List ℕ)) → list_all is_key keys ≡ true → AreKept es → AreKept (keyed es keys)
+keyed-kept : (es : List ElementValue) (keys : List (List ℕ)) → list_all is_key keys ≡ true → AreKept es
+    → AreKept (keyed es keys)
 keyed-kept [] keys are all = tt
 keyed-kept (e ∷ es) [] are all = tt
 keyed-kept (e ∷ es) (key ∷ keys) are all =
@@ -33,10 +35,12 @@ keyed-kept (e ∷ es) (key ∷ keys) are all =
     (with_index-kept e key parts.0 all.0, keyed-kept es keys parts.1 all.1)
 
 pub repaired-kept : (es : List ElementValue) → AreKept es → AreKept (keyed es (repaired (map index_of es)))
-repaired-kept es all = keyed-kept es (repaired (map index_of es)) (AreRepaired-from (map index_of es) (repaired (map index_of es)) refl (kept-keys es all)).new_keys all
+repaired-kept es all = keyed-kept es (repaired (map index_of es))
+    (AreRepaired-from (map index_of es) (repaired (map index_of es)) refl (kept-keys es all)).new_keys all
 
 -- ---- as laws say it
-pub keyed-elements : (es : List ElementValue) → All (λ e. IsElement e × HasValidTexts e) es → All (λ e. IsElement e × HasValidTexts e) (keyed es (repaired (map index_of es)))
+pub keyed-elements : (es : List ElementValue) → All (λ e. IsElement e × HasValidTexts e) es
+    → All (λ e. IsElement e × HasValidTexts e) (keyed es (repaired (map index_of es)))
 keyed-elements es all = kept-to (keyed es (repaired (map index_of es))) (repaired-kept es (kept-from es all))
 
 -- the keys that elements have already change nothing

@@ -5,12 +5,14 @@ use Rattle.frac_keys.specs.Keys.{bytes_less}
 use Rattle.frac_keys.specs.Rising.{ends_rise}
 use Rattle.frac_keys.specs.Between.{keys_between}
 
--- The keys that are kept behind others, of which the last is given: those that are greater than all kept before them.
+-- The keys that are kept behind others, of which the last is given: those that are greater than all
+-- kept before them.
 abbrev pub kept_after : Option (List ℕ) → List (Option (List ℕ)) → List (Option (List ℕ))
 kept_after low [] = []
 kept_after low (None ∷ keys) = None ∷ kept_after low keys
 kept_after low (Some key ∷ keys) =
-    if ends_rise low (Some key) then Some key ∷ kept_after (Some key) keys else None ∷ kept_after low keys
+    if ends_rise low (Some key) then Some key ∷ kept_after (Some key) keys else None
+    ∷ kept_after low keys
 
 -- the key of a position, if it is greater than the last one kept before it
 abbrev pub kept_key : Option (List ℕ) → Option (List ℕ) → Option (List ℕ)
@@ -26,22 +28,24 @@ abbrev pub IsAboveKept : List (Option (List ℕ)) → ℕ → List ℕ → Type 
 IsAboveKept kept i key = (j : ℕ) (other : List ℕ) → j < i → slice_get kept j ≡ Some (Some other)
     → bytes_less other key ≡ true
 
--- These are the kept keys: a position keeps its key exactly if that is greater than all keys kept before it.
+-- These are the kept keys: a position keeps its key exactly if that is greater than all keys kept
+-- before it.
 pub record AreKept (keys kept : List (Option (List ℕ))) : Type 0 where
   pub count : length kept ≡ length keys
   pub each : (i : ℕ) (key : List ℕ) → (slice_get kept i ≡ Some (Some key))
       ↔ ((slice_get keys i ≡ Some (Some key)) × IsAboveKept kept i key)
 
--- Each run of positions without a key gets the keys between those beside it; a run of this length came before. The key
--- above the last run, if there is one, comes first here.
-abbrev pub filled_after : Option (List ℕ) → Option (List ℕ) → ℕ → List (Option (List ℕ)) → List (List ℕ)
+-- Each run of positions without a key gets the keys between those beside it; a run of this length
+-- came before. The key above the last run, if there is one, comes first here.
+abbrev pub filled_after : Option (List ℕ) → Option (List ℕ) → ℕ → List (Option (List ℕ))
+    → List (List ℕ)
 filled_after above low run [] = keys_between low above run
 filled_after above low run (None ∷ keys) = filled_after above low (suc run) keys
 filled_after above low run (Some key ∷ keys) = keys_between low (Some key) run ++ key
     ∷ filled_after above (Some key) 0 keys
 
--- the keys of positions between two ends: those that have one keep it, and each run of others gets the keys between its
--- two neighbours, among which the ends count
+-- the keys of positions between two ends: those that have one keep it, and each run of others gets
+-- the keys between its two neighbours, among which the ends count
 abbrev pub filled : Option (List ℕ) → Option (List ℕ) → List (Option (List ℕ)) → List (List ℕ)
 filled low above keys = filled_after above low 0 keys
 

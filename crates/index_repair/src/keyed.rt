@@ -10,10 +10,11 @@ use elem::Element;
 use frac_keys::Key;
 use std::alloc::{AllocError, Global};
 
-/// The elements in their order, each with the key that repair gives its position, which is its own where all keys rise.
-/// Fails only for want of memory.
+/// The elements in their order, each with the key that repair gives its position, which is its own
+/// where all keys rise. Fails only for want of memory.
 pub fn with_repaired_keys(alloc: Global, elements: Vec<Element>) -> Result<Vec<Element>, AllocError>
-    ensures exact { IfOk result (λ new. new.items ≡ keyed elements.items (repaired (map index_of elements.items))) }
+    ensures exact { IfOk result (λ new. new.items
+        ≡ keyed elements.items (repaired (map index_of elements.items))) }
     ensures old_keys { IfOk result (λ _. HaveKeysOrNone elements.items) }
 {
     if have_rising_keys(&elements) {

@@ -1,4 +1,5 @@
-//! Index repair: strictly rising keys in place of keys that may be absent or in disorder, and elements with such keys.
+//! Index repair: strictly rising keys in place of keys that may be absent or in disorder, and
+//! elements with such keys.
 #![tactic(auto)]
 
 mod keyed;
@@ -16,9 +17,9 @@ use frac_keys::{Key, n_between};
 pub use keyed::with_repaired_keys;
 use std::alloc::{AllocError, Global};
 
-/// Strictly rising keys for all positions. A position keeps its key if it has one that is greater than all keys kept
-/// before it; each run of other positions gets the keys between the kept keys beside it, absent at the two ends. Fails
-/// only for want of memory. This project's own.
+/// Strictly rising keys for all positions. A position keeps its key if it has one that is greater
+/// than all keys kept before it; each run of other positions gets the keys between the kept keys
+/// beside it, absent at the two ends. Fails only for want of memory. This project's own.
 pub fn repair(alloc: Global, keys: &List<Option<Key>>) -> Result<List<Key>, AllocError>
     ensures exact { IfOk result (λ new. new ≡ repaired keys.now) }
     ensures count { IfOk result (λ new. length new ≡ length keys.now) }
@@ -30,7 +31,8 @@ pub fn repair(alloc: Global, keys: &List<Option<Key>>) -> Result<List<Key>, Allo
     repair_part(alloc, keys, None)
 }
 
-/// The same of a part of a list, at whose end the key `above` stands in place of the absent neighbour.
+/// The same of a part of a list, at whose end the key `above` stands in place of the absent
+/// neighbour.
 pub fn repair_part(
     alloc: Global,
     keys: &List<Option<Key>>,
@@ -64,7 +66,8 @@ pub fn repair_part(
     Ok(List::from_vec(new))
 }
 
-/// The key of a position, if it is kept: if it is greater than the last one that was kept before it.
+/// The key of a position, if it is kept: if it is greater than the last one that was kept before
+/// it.
 fn kept_key<'a>(low: Option<&Key>, key: &'a Option<Key>) -> Option<&'a Key>
     ensures kept { option_copied result ≡ kept_key (option_copied low.entry) key.now }
     ensures key { IsTrue (is_key_or_none key.now) }

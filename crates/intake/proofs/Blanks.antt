@@ -13,7 +13,8 @@ blank-front xs ys all = and_parts (is_blank xs) (is_blank ys) (sym (list_all-app
 
 -- what isn't white space alone isn't so with more behind it
 pub blank-more : (xs ys : List ℕ) → is_blank xs ≡ false → is_blank (xs ++ ys) ≡ false
-blank-more xs ys some = false_from_ne_true (is_blank (xs ++ ys)) (λ all. both_ways (is_blank xs) some (blank-front xs ys all).0)
+blank-more xs ys some =
+    false_from_ne_true (is_blank (xs ++ ys)) (λ all. both_ways (is_blank xs) some (blank-front xs ys all).0)
 
 -- white space twice
 pub blank-both : (xs ys : List ℕ) → is_blank xs ≡ true → is_blank ys ≡ true → is_blank (xs ++ ys) ≡ true
@@ -26,7 +27,8 @@ stands-begun bytes text rest s = false_from_ne_true (is_blank bytes) (λ all.
     let behind = (blank-front s.blank (s.value ++ rest) (ap is_blank (sym s.parts) ∙ all)).1 in
     let value = (blank-front s.value rest behind).0 in
     let first : is_blank (head.first ∷ head.more) ≡ true = ap is_blank (sym head.parts ∙ s.reads.spells) ∙ value in
-    both_ways (is_space head.first) (begins-no-space head.first head.begins) (and_parts (is_space head.first) (is_blank head.more) first).0)
+    both_ways (is_space head.first) (begins-no-space head.first head.begins)
+    (and_parts (is_space head.first) (is_blank head.more) first).0)
 
 -- white space alone is left where its end is that of all bytes, and more where it isn't
 pub blank-all : (bytes : List ℕ) → length bytes ≤ prefix_len is_space bytes → is_blank bytes ≡ true
@@ -44,7 +46,8 @@ blank-not (b ∷ bytes) less = elim (cases_Bool (is_space b)) [
 ]
 
 -- the first further byte stands where it stood, whatever follows
-pub first-more : (xs ys : List ℕ) → prefix_len is_space xs < length xs → prefix_len is_space (xs ++ ys) ≡ prefix_len is_space xs
+pub first-more : (xs ys : List ℕ) → prefix_len is_space xs < length xs
+    → prefix_len is_space (xs ++ ys) ≡ prefix_len is_space xs
 first-more [] ys less = absurd (omega (arith, less))
 first-more (b ∷ xs) ys less = elim (cases_Bool (is_space b)) [
   | inl e ↦ rw e (ap (λ n. 1 + n) (first-more xs ys (let more = rw e at less in omega (arith, more))))

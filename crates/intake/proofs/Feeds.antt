@@ -38,15 +38,18 @@ Valued ms = AllByRecursion (λ (m : Member). NoFeed m.1) ms
 last-none : (name value : List ℕ) (ms : List Member) → NoFeed value → Valued ms → NoFeed (last_value name value ms)
 last-none name value [] h all = h
 last-none name value (m ∷ ms) h all =
-    cond_both (bytes_eq name m.0) (last_value name m.1 ms) (last_value name value ms) NoFeed (λ _. last-none name m.1 ms all.0 all.1) (λ _. last-none name value ms h all.1)
+    cond_both (bytes_eq name m.0) (last_value name m.1 ms) (last_value name value ms) NoFeed
+    (λ _. last-none name m.1 ms all.0 all.1) (λ _. last-none name value ms h all.1)
 
 filter-none : (p : Member → _) (ms : List Member) → Valued ms → Valued (filter p ms)
 filter-none p [] all = tt
-filter-none p (m ∷ ms) all = cond_both (p m) (m ∷ filter p ms) (filter p ms) Valued (λ _. (all.0, filter-none p ms all.1)) (λ _. filter-none p ms all.1)
+filter-none p (m ∷ ms) all = cond_both (p m) (m ∷ filter p ms) (filter p ms) Valued
+    (λ _. (all.0, filter-none p ms all.1)) (λ _. filter-none p ms all.1)
 
 collapsed-none : (ms : List Member) → Valued ms → Valued (collapsed ms)
 collapsed-none [] all = tt
-collapsed-none (m ∷ ms) all = (last-none m.0 m.1 ms all.0 all.1, filter-none (has_other_name m.0) (collapsed ms) (collapsed-none ms all.1))
+collapsed-none (m ∷ ms) all =
+    (last-none m.0 m.1 ms all.0 all.1, filter-none (has_other_name m.0) (collapsed ms) (collapsed-none ms all.1))
 
 -- texts between commas
 abbrev Texts : List (List ℕ) → Type 0
@@ -71,7 +74,8 @@ array-none ts all = joined (join_with_byte 44 ts) (93 ∷ []) (join-none ts all)
 
 pub object-none : (ms : List Member) → Valued ms → NoFeed (object_text ms)
 unfolding object_text
-object-none ms all = joined (join_with_byte 44 (map member_text ms)) (125 ∷ []) (join-none (map member_text ms) (members-none ms all)) refl
+object-none ms all = joined (join_with_byte 44 (map member_text ms)) (125 ∷ [])
+    (join-none (map member_text ms) (members-none ms all)) refl
 
 container-none : (c : Container) (ms : List Member) → Valued ms → NoFeed (container_text c ms)
 container-none array ms all = array-none (map (λ (m : Member). m.1) ms) (values-none ms all)

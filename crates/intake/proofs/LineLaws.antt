@@ -13,23 +13,31 @@ abbrev pub NoFeed : List ℕ → Type 0
 NoFeed bytes = list_all is_within_line bytes ≡ true
 
 pub joined : (xs ys : List ℕ) → NoFeed xs → NoFeed ys → NoFeed (xs ++ ys)
-joined xs ys h k = list_all-append is_within_line xs ys ∙ and_from (list_all is_within_line xs) (list_all is_within_line ys) h k
+joined xs ys h k =
+    list_all-append is_within_line xs ys ∙ and_from (list_all is_within_line xs) (list_all is_within_line ys) h k
 
 -- ---- what bytes without a line feed, and one, add
-pub lines-run : (begun front bytes : List ℕ) → NoFeed front → lines_behind begun (front ++ bytes) ≡ lines_behind (begun ++ front) bytes
+pub lines-run : (begun front bytes : List ℕ) → NoFeed front
+    → lines_behind begun (front ++ bytes) ≡ lines_behind (begun ++ front) bytes
 lines-run begun [] bytes none = ap (λ b. lines_behind b bytes) (sym (append-nil begun))
 lines-run begun (b ∷ front) bytes none =
     let p = and_parts (is_within_line b) (list_all is_within_line front) none in
-    cond-true (is_within_line b) _ _ p.0 ∙ (lines-run (begun ++ b ∷ []) front bytes p.1 ∙ ap (λ c. lines_behind c bytes) (append_assoc begun (b ∷ []) front))
+    cond-true (is_within_line b) _ _ p.0
+    ∙ (lines-run (begun ++ b ∷ []) front bytes p.1
+    ∙ ap (λ c. lines_behind c bytes) (append_assoc begun (b ∷ []) front))
 
-pub begun-run : (begun front bytes : List ℕ) → NoFeed front → begun_behind begun (front ++ bytes) ≡ begun_behind (begun ++ front) bytes
+pub begun-run : (begun front bytes : List ℕ) → NoFeed front
+    → begun_behind begun (front ++ bytes) ≡ begun_behind (begun ++ front) bytes
 begun-run begun [] bytes none = ap (λ b. begun_behind b bytes) (sym (append-nil begun))
 begun-run begun (b ∷ front) bytes none =
     let p = and_parts (is_within_line b) (list_all is_within_line front) none in
-    cond-true (is_within_line b) _ _ p.0 ∙ (begun-run (begun ++ b ∷ []) front bytes p.1 ∙ ap (λ c. begun_behind c bytes) (append_assoc begun (b ∷ []) front))
+    cond-true (is_within_line b) _ _ p.0
+    ∙ (begun-run (begun ++ b ∷ []) front bytes p.1
+    ∙ ap (λ c. begun_behind c bytes) (append_assoc begun (b ∷ []) front))
 
 -- ---- two stretches
-pub lines-append : (begun xs ys : List ℕ) → lines_behind begun (xs ++ ys) ≡ lines_behind begun xs ++ lines_behind (begun_behind begun xs) ys
+pub lines-append : (begun xs ys : List ℕ) → lines_behind begun (xs ++ ys) ≡ lines_behind begun xs
+    ++ lines_behind (begun_behind begun xs) ys
 lines-append begun [] ys = refl
 lines-append begun (b ∷ xs) ys = elim (cases_Bool (is_within_line b)) [
   | inl t ↦ rw t (lines-append (begun ++ b ∷ []) xs ys)
@@ -53,27 +61,32 @@ none-begun begun front none = ap (begun_behind begun) (sym (append-nil front)) �
 -- a stretch without a line feed, and one that ends with its only one
 pub stretch-lines : (stream front : List ℕ) → NoFeed front → lines_of (stream ++ front) ≡ lines_of stream
 stretch-lines stream front none =
-    lines-append [] stream front ∙ (ap (λ ls. lines_of stream ++ ls) (none-lines (begun_of stream) front none) ∙ append-nil (lines_of stream))
+    lines-append [] stream front ∙ (ap (λ ls. lines_of stream ++ ls) (none-lines (begun_of stream) front none)
+    ∙ append-nil (lines_of stream))
 
 pub stretch-begun : (stream front : List ℕ) → NoFeed front → begun_of (stream ++ front) ≡ begun_of stream ++ front
 stretch-begun stream front none =
     begun-append [] stream front ∙ none-begun (begun_of stream) front none
 
-pub ended-lines : (stream front : List ℕ) → NoFeed front → lines_of (stream ++ (front ++ 10 ∷ [])) ≡ lines_of stream ++ ((begun_of stream ++ front) ++ 10 ∷ []) ∷ []
+pub ended-lines : (stream front : List ℕ) → NoFeed front → lines_of (stream ++ (front ++ 10 ∷ [])) ≡ lines_of stream
+    ++ ((begun_of stream ++ front) ++ 10 ∷ []) ∷ []
 ended-lines stream front none =
-    lines-append [] stream (front ++ 10 ∷ []) ∙ ap (λ ls. lines_of stream ++ ls) (lines-run (begun_of stream) front (10 ∷ []) none)
+    lines-append [] stream (front ++ 10 ∷ [])
+    ∙ ap (λ ls. lines_of stream ++ ls) (lines-run (begun_of stream) front (10 ∷ []) none)
 
 pub ended-begun : (stream front : List ℕ) → NoFeed front → begun_of (stream ++ (front ++ 10 ∷ [])) ≡ []
 ended-begun stream front none =
     begun-append [] stream (front ++ 10 ∷ []) ∙ begun-run (begun_of stream) front (10 ∷ []) none
 
 -- ---- bytes are their lines
-parts : (begun bytes : List ℕ) → begun ++ bytes ≡ flat_map (λ (line : List ℕ). line) (lines_behind begun bytes) ++ begun_behind begun bytes
+parts : (begun bytes : List ℕ) → begun ++ bytes ≡ flat_map (λ (line : List ℕ). line) (lines_behind begun bytes)
+    ++ begun_behind begun bytes
 parts begun [] = append-nil begun
 parts begun (b ∷ bytes) = elim (cases_Bool (is_within_line b)) [
   | inl t ↦ rw t (sym (append_assoc begun (b ∷ []) bytes) ∙ parts (begun ++ b ∷ []) bytes)
   | inr f ↦ rw f (sym (append_assoc begun (b ∷ []) bytes) ∙ (ap (λ bs. (begun ++ b ∷ []) ++ bs) (parts [] bytes)
-      ∙ sym (append_assoc (begun ++ b ∷ []) (flat_map (λ (line : List ℕ). line) (lines_behind [] bytes)) (begun_behind [] bytes))))
+      ∙ sym (append_assoc (begun ++ b ∷ []) (flat_map (λ (line : List ℕ). line) (lines_behind [] bytes))
+      (begun_behind [] bytes))))
 ]
 
 pub feed : (b : ℕ) → is_within_line b ≡ false → b ≡ 10
@@ -83,7 +96,10 @@ each : (begun bytes : List ℕ) → NoFeed begun → AllByRecursion IsLine (line
 each begun [] none = tt
 each begun (b ∷ bytes) none = elim (cases_Bool (is_within_line b)) [
   | inl t ↦ rw t (each (begun ++ b ∷ []) bytes (joined begun (b ∷ []) none (and_from (is_within_line b) true t refl)))
-  | inr f ↦ rw f (record { front = begun; parts = ap (λ x. begun ++ x ∷ []) (feed b f); within = none }, each [] bytes refl)
+  | inr f ↦ rw f (
+    record { front = begun; parts = ap (λ x. begun ++ x ∷ []) (feed b f); within = none },
+    each [] bytes refl,
+  )
 ]
 
 within : (begun bytes : List ℕ) → NoFeed begun → NoFeed (begun_behind begun bytes)
@@ -107,20 +123,26 @@ run-none p (x ∷ xs) = elim (cases_Bool (p x)) [
 pub front-none : (xs : List ℕ) (n : ℕ) → n ≡ prefix_len is_within_line xs → NoFeed (take n xs)
 front-none xs n e = subst (λ k. NoFeed (take k xs)) (sym e) (run-none is_within_line xs)
 
-pub front-ended : (xs : List ℕ) (n : ℕ) → n ≡ prefix_len is_within_line xs → n < length xs → take (n + 1) xs ≡ take n xs ++ 10 ∷ []
+pub front-ended : (xs : List ℕ) (n : ℕ) → n ≡ prefix_len is_within_line xs → n < length xs
+    → take (n + 1) xs ≡ take n xs ++ 10 ∷ []
 front-ended xs n e within =
     let less : prefix_len is_within_line xs < length xs = omega (arith, within, e) in
-    let byte : get_or xs n 0 ≡ 10 = feed (get_or xs n 0) (subst (λ k. is_within_line (get_or xs k 0) ≡ false) (sym e) (prefix_len_stops is_within_line xs 0 less)) in
+    let byte : get_or xs n 0 ≡ 10 = feed (get_or xs n 0) (subst (λ k. is_within_line (get_or xs k 0) ≡ false) (sym e)
+    (prefix_len_stops is_within_line xs 0 less)) in
     take_more xs n 0 within ∙ ap (λ b. take n xs ++ b ∷ []) byte
 
 -- a stretch that ends with its first line feed
-pub feed-lines : (begun piece : List ℕ) (n : ℕ) → n ≡ prefix_len is_within_line piece → n < length piece → lines_behind begun (take (n + 1) piece) ≡ (begun ++ take (n + 1) piece) ∷ []
+pub feed-lines : (begun piece : List ℕ) (n : ℕ) → n ≡ prefix_len is_within_line piece → n < length piece
+    → lines_behind begun (take (n + 1) piece) ≡ (begun ++ take (n + 1) piece) ∷ []
 feed-lines begun piece n e within =
     let front = take n piece in
     subst (λ (bytes : List ℕ). lines_behind begun bytes ≡ (begun ++ bytes) ∷ []) (sym (front-ended piece n e within))
-    (lines-run begun front (10 ∷ []) (front-none piece n e) ∙ ap (λ line. line ∷ []) (append_assoc begun front (10 ∷ [])))
+    (lines-run begun front (10 ∷ []) (front-none piece n e)
+    ∙ ap (λ line. line ∷ []) (append_assoc begun front (10 ∷ [])))
 
-pub feed-begun : (begun piece : List ℕ) (n : ℕ) → n ≡ prefix_len is_within_line piece → n < length piece → begun_behind begun (take (n + 1) piece) ≡ []
+pub feed-begun : (begun piece : List ℕ) (n : ℕ) → n ≡ prefix_len is_within_line piece → n < length piece
+    → begun_behind begun (take (n + 1) piece) ≡ []
 feed-begun begun piece n e within =
     let front = take n piece in
-    subst (λ (bytes : List ℕ). begun_behind begun bytes ≡ []) (sym (front-ended piece n e within)) (begun-run begun front (10 ∷ []) (front-none piece n e))
+    subst (λ (bytes : List ℕ). begun_behind begun bytes ≡ []) (sym (front-ended piece n e within))
+    (begun-run begun front (10 ∷ []) (front-none piece n e))

@@ -8,7 +8,8 @@ use Rattle.intake.specs.declared.reading.Stopped.{Stopped}
 use Rattle.intake.specs.Texts.{Reading, StandsIn}
 
 -- A source gave so many bytes so far, and their texts were read, up to what stopped that.
-pub record HasTaken {F : Type 0} (before after : SourceEnd) (used : ℕ) (feed : Feeding) (reader : Reading F) (stop : Option (Stopped F)) : Type 0 where
+pub record HasTaken {F : Type 0} (before after : SourceEnd) (used : ℕ) (feed : Feeding) (reader : Reading F)
+    (stop : Option (Stopped F)) : Type 0 where
   pub stream : List ℕ
   pub width : length stream ≡ used
   pub given : Gave before after stream
@@ -19,7 +20,8 @@ Gave-none None = refl
 Gave-none (Some rest) = refl
 
 -- nothing was given
-pub taken-first : {F : Type 0} (source : SourceEnd) (reader : Reading F) → reader.has_read [] → HasTaken source source 0 (record { rest = []; used = 0; fault = None }) reader None
+pub taken-first : {F : Type 0} (source : SourceEnd) (reader : Reading F) → reader.has_read []
+    → HasTaken source source 0 (record { rest = []; used = 0; fault = None }) reader None
 taken-first source reader unread = record {
   stream = [];
   width = refl;
@@ -35,7 +37,8 @@ taken-first source reader unread = record {
 }
 
 -- some more was given
-module _ {F : Type 0} (before middle after : SourceEnd) (used n : ℕ) (piece : List ℕ) (given : Gave middle after (take n piece)) where
+module _ {F : Type 0} (before middle after : SourceEnd) (used n : ℕ) (piece : List ℕ)
+    (given : Gave middle after (take n piece)) where
   pub taken-more : (feed next : Feeding) (reader now : Reading F) (stop found : Option (Stopped F)) → n ≤ length piece
       → ((stream : List ℕ) → StandsIn stream [] feed reader stop → StandsIn (stream ++ take n piece) [] next now found)
       → HasTaken before middle used feed reader stop → HasTaken before after (used + n) next now found

@@ -9,16 +9,17 @@ use Rattle.json_reader.specs.declared.fault.JsonFault.{JsonFault}
 use Rattle.intake.specs.declared.reading.Stopped.{Stopped}
 use Rattle.intake.specs.declared.reading.Stopped.TheVariants.{Faulty, Refused, Extra}
 
--- What is seen of a reader of texts: which compact texts it has read, one after the other; which text it refuses behind
--- those, and for which fault; whether it takes no further text; and whether it must have one more.
+-- What is seen of a reader of texts: which compact texts it has read, one after the other; which
+-- text it refuses behind those, and for which fault; whether it takes no further text; and whether
+-- it must have one more.
 pub record Reading (F : Type 0) : Type 1 where
   pub has_read : List (List ℕ) → Type 0
   pub refuses : List (List ℕ) → List ℕ → F → Type 0
   pub is_full : Bool
   pub needs_text : Bool
 
--- Values with these compact texts stand at the front, one after the other, each behind white space; the rest follows
--- them.
+-- Values with these compact texts stand at the front, one after the other, each behind white space;
+-- the rest follows them.
 abbrev pub TextsLead : List ℕ → List (List ℕ) → List ℕ → Type 0
 TextsLead bytes [] rest = bytes ≡ rest
 TextsLead bytes (text ∷ texts) rest =
@@ -31,7 +32,8 @@ pub record HasReadTo {F : Type 0} (bytes : List ℕ) (reader : Reading F) (texts
   pub within : start ≤ length bytes
   pub lead : TextsLead bytes texts (drop start bytes)
 
--- The reader has read all texts: behind them white space alone is left, and it needs no further one.
+-- The reader has read all texts: behind them white space alone is left, and it needs no further
+-- one.
 pub record HasTexts {F : Type 0} (bytes : List ℕ) (reader : Reading F) : Type 0 where
   pub texts : List (List ℕ)
   pub start : ℕ
@@ -39,8 +41,8 @@ pub record HasTexts {F : Type 0} (bytes : List ℕ) (reader : Reading F) : Type 
   pub space : is_blank (drop start bytes) ≡ true
   pub enough : reader.needs_text ≡ false
 
--- Behind the texts that the reader has read it takes a further one, and no value stands there: this is the first fault.
--- It needs the text, or more than white space is left.
+-- Behind the texts that the reader has read it takes a further one, and no value stands there: this
+-- is the first fault. It needs the text, or more than white space is left.
 pub record HasFaultBehind {F : Type 0} (bytes : List ℕ) (reader : Reading F)
     (fault : JsonFault) : Type 0 where
   pub texts : List (List ℕ)
@@ -63,8 +65,8 @@ pub record HasRefusedBehind {F : Type 0} (bytes : List ℕ) (reader : Reading F)
   pub begun : is_blank (drop start bytes) ≡ false
   pub refused : reader.refuses texts text fault
 
--- Behind the texts that the reader has read it takes no further one, and more than white space is left: behind the
--- white space a further byte stands at this place.
+-- Behind the texts that the reader has read it takes no further one, and more than white space is
+-- left: behind the white space a further byte stands at this place.
 pub record HasExtraBehind {F : Type 0} (bytes : List ℕ) (reader : Reading F)
     (place : ℕ) : Type 0 where
   pub texts : List (List ℕ)
@@ -86,8 +88,9 @@ abbrev pub AreRead : {F : Type 0} → List ℕ → Reading F → Option (Stopped
 AreRead bytes reader None = HasTexts bytes reader
 AreRead bytes reader (Some stopped) = IsStopped bytes reader stopped
 
--- The feed stands in the stream, of which so much is left, behind texts that lead up to there whatever follows; the
--- reader has read these. Behind the last text that it takes nothing but white space was used.
+-- The feed stands in the stream, of which so much is left, behind texts that lead up to there
+-- whatever follows; the reader has read these. Behind the last text that it takes nothing but white
+-- space was used.
 pub record IsLed {F : Type 0} (stream left : List ℕ) (feed : Feeding)
     (reader : Reading F) : Type 0 where
   pub texts : List (List ℕ)
@@ -97,8 +100,8 @@ pub record IsLed {F : Type 0} (stream left : List ℕ) (feed : Feeding)
   pub lead : (more : List ℕ) → TextsLead (stream ++ more) texts (drop start stream ++ more)
   pub skipped : reader.is_full ≡ true → feed.rest ≡ []
 
--- The texts of the stream so far, of which so much is left: the reader has read those that have ended; or what stopped
--- it, whatever follows.
+-- The texts of the stream so far, of which so much is left: the reader has read those that have
+-- ended; or what stopped it, whatever follows.
 abbrev pub StandsIn : {F : Type 0} → List ℕ → List ℕ → Feeding → Reading F → Option (Stopped F)
     → Type 0
 StandsIn stream left feed reader None = IsLed stream left feed reader

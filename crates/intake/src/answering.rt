@@ -24,11 +24,13 @@ pub trait Answerer {
     // Which answers a line may have in a state, and which state each leads to.
     ghost answers: { State → Items ℕ → Items ℕ → State → Type 0 };
 
-    /// Answers the next line, whose line feed is in it; the answer's is not. For want of memory it is as before.
+    /// Answers the next line, whose line feed is in it; the answer's is not. For want of memory
+    /// it is as before.
     fn answer(&mut self, alloc: Global, line: &[u8]) -> Result<Bytes, AllocError>
         ensures answered { IfOk result (λ text. (state : State) → stands self.old state
             → (next : State) × stands self.new next × answers state line.now text next) }
-        ensures kept { OnErr result ((state : State) → stands self.old state → stands self.new state) };
+        ensures kept { OnErr result ((state : State) → stands self.old state
+            → stands self.new state) };
 }
 
 /// Why lines were answered no further.
@@ -40,12 +42,13 @@ pub enum LinesFault {
     WriteFailed,
 }
 
-/// Answers each line that the source gives, up to its end: the answer and a line feed are written before a further line
-/// is answered. What stands behind the last line feed is no line. Where memory is wanting for a line or its answer,
-/// `lost` is written for it, and the answerer is as before. It holds one line at a time.
-/// `ReadFailed` comes only where the source's count of faults rose, and all lines before are answered; `WriteFailed`
-/// only where the sink's rose, within the answer to a line. Want of memory is the answer where nothing was read yet, or
-/// more pieces came than a 64-bit number counts.
+/// Answers each line that the source gives, up to its end: the answer and a line feed are written
+/// before a further line is answered. What stands behind the last line feed is no line. Where
+/// memory is wanting for a line or its answer, `lost` is written for it, and the answerer is as
+/// before. It holds one line at a time. `ReadFailed` comes only where the source's count of faults
+/// rose, and all lines before are answered; `WriteFailed` only where the sink's rose, within the
+/// answer to a line. Want of memory is the answer where nothing was read yet, or more pieces came
+/// than a 64-bit number counts.
 pub fn answer_lines<S: Source, K: Sink, A: Answerer>(
     alloc: Global,
     source: &mut S,
@@ -81,7 +84,8 @@ pub fn answer_lines<S: Source, K: Sink, A: Answerer>(
     Err(Stop::Memory)
 }
 
-/// Reads the next bytes into the piece and answers the lines that end in them, and says how many came.
+/// Reads the next bytes into the piece and answers the lines that end in them, and says how many
+/// came.
 fn next_piece<S: Source, K: Sink, A: Answerer>(
     alloc: Global,
     source: &mut S,
@@ -91,7 +95,8 @@ fn next_piece<S: Source, K: Sink, A: Answerer>(
     begun: &mut Begun,
     piece: &mut [u8],
 ) -> Result<usize, LinesFault>
-    ensures given { IfOk result (λ n. Gave (S.seen source.old) (S.seen source.new) (take n piece.new)) }
+    ensures given { IfOk result (λ n. Gave (S.seen source.old) (S.seen source.new)
+        (take n piece.new)) }
     ensures begun { IfOk result (λ n. (bytes : Items ℕ) → IsBegun begun.old bytes
         → IsBegun begun.new (begun_behind bytes (take n piece.new))) }
     ensures answered { IfOk result (λ n. (bytes : Items ℕ) → IsBegun begun.old bytes
@@ -104,7 +109,8 @@ fn next_piece<S: Source, K: Sink, A: Answerer>(
         × (answerer.new ≡ answerer.old) × (sink.new ≡ sink.old) }
     ensures write_failed { result ≡ Err LinesFault.WriteFailed
         → Rose (K.seen sink.old).faults (K.seen sink.new).faults }
-    ensures part { result ≡ Err LinesFault.WriteFailed → (bytes : Items ℕ) → IsBegun begun.old bytes
+    ensures part { result ≡ Err LinesFault.WriteFailed → (bytes : Items ℕ)
+        → IsBegun begun.old bytes
         → (given : Items ℕ) × Gave (S.seen source.old) (S.seen source.new) given
         × WereAnsweredInPart A.answers lost.now (A.stands answerer.old) (A.stands answerer.new)
         (K.seen sink.old) (K.seen sink.new) (lines_behind bytes given) }
@@ -147,8 +153,8 @@ fn take_piece<K: Sink, A: Answerer>(
     Ok(())
 }
 
-/// Takes the bytes up to the end of a line or of the piece, answers the line if it has ended, and says how many these
-/// are.
+/// Takes the bytes up to the end of a line or of the piece, answers the line if it has ended,
+/// and says how many these are.
 fn take_stretch<K: Sink, A: Answerer>(
     alloc: Global,
     sink: &mut K,

@@ -12,9 +12,10 @@ use board_ends::{Failed, ReadError, Source};
 use json_reader::Feed;
 use std::alloc::Global;
 
-/// Hands the texts that the source gives on, each when it ends. What stops that first is the answer, and the source is read
-/// on to its end all the same. It stops at a failure, and at the byte after `limit` bytes.
-/// `Failed` comes only where the source's count of faults rose, `TooLong` exactly where `limit + 1` bytes were given.
+/// Hands the texts that the source gives on, each when it ends. What stops that first is the
+/// answer, and the source is read on to its end all the same. It stops at a failure, and at the
+/// byte after `limit` bytes. `Failed` comes only where the source's count of faults rose, `TooLong`
+/// exactly where `limit + 1` bytes were given.
 pub fn read_texts<S: Source, R: Reader>(
     alloc: Global,
     source: &mut S,

@@ -1,4 +1,5 @@
-//! An input that comes in pieces: each of its texts is handed on when it ends, or each of its lines is answered.
+//! An input that comes in pieces: each of its texts is handed on when it ends, or each of its lines
+//! is answered.
 #![tactic(auto)]
 
 mod answering;

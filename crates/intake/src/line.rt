@@ -49,8 +49,8 @@ impl Begun {
         }
     }
 
-    /// The next bytes of the line come. Where memory is wanting for them the line is lost, and what it held is given
-    /// back.
+    /// The next bytes of the line come. Where memory is wanting for them the line is lost, and what
+    /// it held is given back.
     pub(crate) fn extend(&mut self, alloc: Global, more: &[u8])
         ensures { (bytes : List ℕ) → IsBegun self.old bytes → IsBegun self.new (bytes ++ more.now) }
     {

@@ -14,7 +14,8 @@ pub trait Reader {
     /// Why it refuses a text.
     type Fault: Drop;
 
-    // Which texts it has read and which it refuses, whether it takes no further one, and whether it must have one.
+    // Which texts it has read and which it refuses, whether it takes no further one, and whether it
+    // must have one.
     ghost seen: { Self → Reading Self.Fault };
 
     /// Whether it takes no further text.
@@ -26,7 +27,8 @@ pub trait Reader {
     fn needs_text(&self) -> bool
         ensures { result ≡ (seen self.now).needs_text };
 
-    /// Reads the next text, or refuses it for its fault. Behind a text that it refuses it gets none.
+    /// Reads the next text, or refuses it for its fault. Behind a text that it refuses it gets
+    /// none.
     fn read(&mut self, alloc: Global, text: &Raw) -> Result<(), Stop<Self::Fault>>
         requires { (seen self.old).is_full ≡ false }
         ensures read { OnOk result ((texts : List (List ℕ)) → (seen self.old).has_read texts
@@ -44,7 +46,8 @@ pub enum Stopped<F> {
     Faulty(JsonFault),
     /// The reader refuses a text for this fault.
     Refused(F),
-    /// The reader takes no further text, and behind white space a byte stands at this place of the input.
+    /// The reader takes no further text, and behind white space a byte stands at this place of the
+    /// input.
     Extra(usize),
 }
 

@@ -21,10 +21,12 @@ abbrev pub OnState : (Mode → Type 0) → Outcome → Type 0
 OnState P (state m st) = P m
 OnState P o = Unit {0}
 
-pub on_applied : (P : Mode → Type 0) (limit : ℕ) (st : List Bracket) (b : ℕ) (move : Move) → OnMove P move → OnState P (applied limit st b move)
+pub on_applied : (P : Mode → Type 0) (limit : ℕ) (st : List Bracket) (b : ℕ) (move : Move) → OnMove P move
+    → OnState P (applied limit st b move)
 on_applied P limit st b move p = grind arith
 
-pub on_go : (P Q : Mode → Type 0) (limit b : ℕ) → ((m : Mode) (top : Option Bracket) → P m → OnMove Q (moved m top b)) → (o : Outcome) → OnState P o → OnState Q (go limit o b)
+pub on_go : (P Q : Mode → Type 0) (limit b : ℕ) → ((m : Mode) (top : Option Bracket) → P m → OnMove Q (moved m top b))
+    → (o : Outcome) → OnState P o → OnState Q (go limit o b)
 on_go P Q limit b moves o p = grind (arith, on_applied Q limit)
 
 -- ---- the bytes of a sequence that have come
@@ -60,7 +62,15 @@ module _ (bytes : List ℕ) (b : ℕ) where
   plain_kept : (r : Role) (o : Option Tail) → tail_led b ≡ o → Kept bytes b (string_move r Plain b)
   plain_kept r None e = calm_kept _ (grind arith)
   plain_kept r (Some tail) e =
-      rw (lead_char r b tail e) (record { before = bytes; come = b ∷ []; parts = refl; counts = omega arith; some = omega arith; completes = λ t c. led_char b t tail e c })
+      rw (lead_char r b tail e) (record {
+        before = bytes;
+        come = b ∷ [];
+        parts = refl;
+        counts = omega arith;
+        some =
+            omega arith;
+        completes = λ t c. led_char b t tail e c;
+      })
 
   pub kept : (m : Mode) (top : Option Bracket) → Keeps bytes m → Kept bytes b (moved m top b)
   kept (Quoted r Plain) top h = plain_kept r (tail_led b) refl
@@ -77,11 +87,13 @@ module _ (bytes : List ℕ) (b : ℕ) where
   kept Fresh (Some Square) h = calm_kept _ (grind arith)
   kept m top h = calm_kept _ (grind arith)
 
-pub run_keeps : (limit : ℕ) (bytes xs : List ℕ) (o : Outcome) → OnState (Keeps bytes) o → OnState (Keeps (bytes ++ xs)) (run limit o xs)
+pub run_keeps : (limit : ℕ) (bytes xs : List ℕ) (o : Outcome) → OnState (Keeps bytes) o
+    → OnState (Keeps (bytes ++ xs)) (run limit o xs)
 run_keeps limit bytes [] o k = subst (λ x. OnState (Keeps x) o) (sym (append-nil bytes)) k
 run_keeps limit bytes (x ∷ xs) o k =
     subst (λ y. OnState (Keeps y) (run limit (go limit o x) xs)) (append_assoc bytes (x ∷ []) xs)
-    (run_keeps limit (bytes ++ x ∷ []) xs (go limit o x) (on_go (Keeps bytes) (Keeps (bytes ++ x ∷ [])) limit x (λ m top h. grind (arith, kept bytes x m top h)) o k))
+    (run_keeps limit (bytes ++ x ∷ []) xs (go limit o x)
+    (on_go (Keeps bytes) (Keeps (bytes ++ x ∷ [])) limit x (λ m top h. grind (arith, kept bytes x m top h)) o k))
 
 -- ---- a `\` and a byte that begins a sequence
 -- the machine is between two characters of a string
@@ -116,7 +128,8 @@ module _ (b : ℕ) (is : (b ≡ 92) ⊎ (192 ≤ b)) where
   outside_moved m top h = not_led _ (grind (arith, ended_part, strange_after top))
 
 -- only between two characters does the machine go on with a byte that begins a sequence
-pub high_moved : (b : ℕ) → 192 ≤ b → (m : Mode) (top : Option Bracket) → (IsBetween m → ⊥) → OnMove (λ m. ⊥) (moved m top b)
+pub high_moved : (b : ℕ) → 192 ≤ b → (m : Mode) (top : Option Bracket) → (IsBetween m → ⊥)
+    → OnMove (λ m. ⊥) (moved m top b)
 high_moved b high (Quoted r place) top no_plain = not_led _ (grind arith)
 high_moved b high m top no_plain = outside_moved b (inr high) m top tt
 
@@ -126,39 +139,54 @@ abbrev pub IsInside : Place → Type 0
 IsInside (Sequence n tail) = ⊥
 IsInside place = Unit {0}
 
-pub no_escape : (limit : ℕ) (o : Outcome) (zeros : ℕ) → OnState IsOutside o → OnState (λ m. ⊥) (run limit o (replicate zeros 48 ++ 92 ∷ []))
+pub no_escape : (limit : ℕ) (o : Outcome) (zeros : ℕ) → OnState IsOutside o
+    → OnState (λ m. ⊥) (run limit o (replicate zeros 48 ++ 92 ∷ []))
 no_escape limit o zero h = on_go IsOutside (λ m. ⊥) limit 92 (outside_moved 92 (inl refl)) o h
-no_escape limit o (suc zeros) h = no_escape limit (go limit o 48) zeros (on_go IsOutside IsOutside limit 48 (λ m top h. grind arith) o h)
+no_escape limit o (suc zeros) h =
+    no_escape limit (go limit o 48) zeros (on_go IsOutside IsOutside limit 48 (λ m top h. grind arith) o h)
 
 -- ---- inside a string an escape comes after some zeros
 abbrev Goes : Outcome → Type 0
 Goes o = (m : Mode) × (st : List Bracket) × (o ≡ state m st)
 
-hex_goes : (limit : ℕ) (r : Role) (more : ℕ) (st : List Bracket) → run limit (state (Quoted r (Hex more)) st) (replicate (suc more) 48) ≡ state (Quoted r Plain) st
+hex_goes : (limit : ℕ) (r : Role) (more : ℕ) (st : List Bracket)
+    → run limit (state (Quoted r (Hex more)) st) (replicate (suc more) 48) ≡ state (Quoted r Plain) st
 hex_goes limit r zero st = refl
 hex_goes limit r (suc more) st = hex_goes limit r more st
 
-pub some_escape : (limit : ℕ) (r : Role) (place : Place) (st : List Bracket) → IsInside place → (zeros : ℕ) × Goes (run limit (state (Quoted r place) st) (replicate zeros 48 ++ 92 ∷ []))
+pub some_escape : (limit : ℕ) (r : Role) (place : Place) (st : List Bracket) → IsInside place → (zeros : ℕ)
+    × Goes (run limit (state (Quoted r place) st) (replicate zeros 48 ++ 92 ∷ []))
 some_escape limit r Plain st h = (0, (Quoted r Escape, st, refl))
 some_escape limit r Escape st h = (0, (Quoted r Plain, st, refl))
-some_escape limit r (Hex more) st h =
-    (suc more, (Quoted r Escape, st, run-append limit (state (Quoted r (Hex more)) st) (replicate (suc more) 48) (92 ∷ []) ∙ ap (λ o. run limit o (92 ∷ [])) (hex_goes limit r more st)))
+some_escape limit r (Hex more) st h = (
+  suc more,
+  (
+    Quoted r Escape,
+    st,
+    run-append limit (state (Quoted r (Hex more)) st) (replicate (suc more) 48)
+        (92 ∷ []) ∙ ap (λ o. run limit o (92 ∷ [])) (hex_goes limit r more st),
+  ),
+)
 some_escape limit r (Sequence n tail) st h = absurd h
 
 -- ---- a greater limit refuses nothing more
-applied_more : (limit : ℕ) (st : List Bracket) (b : ℕ) (move : Move) → (applied limit st b move ≡ refused) ⊎ (applied (suc limit) st b move ≡ applied limit st b move)
+applied_more : (limit : ℕ) (st : List Bracket) (b : ℕ) (move : Move) → (applied limit st b move ≡ refused)
+    ⊎ (applied (suc limit) st b move ≡ applied limit st b move)
 applied_more limit st b move = grind arith
 
-pub run_more : (limit : ℕ) (o : Outcome) (xs : List ℕ) (m : Mode) (st : List Bracket) → run limit o xs ≡ state m st → run (suc limit) o xs ≡ state m st
+pub run_more : (limit : ℕ) (o : Outcome) (xs : List ℕ) (m : Mode) (st : List Bracket) → run limit o xs ≡ state m st
+    → run (suc limit) o xs ≡ state m st
 run_more limit o [] m st e = e
-run_more limit o (x ∷ xs) m st e = grind (arith, applied_more limit, refused_stays limit xs m st, run_more limit (go limit o x) xs m st)
+run_more limit o (x ∷ xs) m st e =
+    grind (arith, applied_more limit, refused_stays limit xs m st, run_more limit (go limit o x) xs m st)
 
 -- ---- no more are open than may be
 abbrev pub IsWithin : ℕ → Outcome → Type 0
 IsWithin limit (state m st) = length st ≤ limit
 IsWithin limit o = Unit {0}
 
-applied_within : (limit : ℕ) (st : List Bracket) (b : ℕ) (move : Move) → length st ≤ limit → IsWithin limit (applied limit st b move)
+applied_within : (limit : ℕ) (st : List Bracket) (b : ℕ) (move : Move) → length st ≤ limit
+    → IsWithin limit (applied limit st b move)
 applied_within limit st b move h = grind (arith, length-drop 1 st)
 
 pub run_within : (limit : ℕ) (o : Outcome) (xs : List ℕ) → IsWithin limit o → IsWithin limit (run limit o xs)
@@ -166,12 +194,15 @@ run_within limit o [] h = h
 run_within limit o (x ∷ xs) h = run_within limit (go limit o x) xs (grind (arith, applied_within limit))
 
 -- ---- what the lesser limit alone refuses
-pub deep_opens : (limit : ℕ) (st : List Bracket) (b : ℕ) (move : Move) (m : Mode) (after : List Bracket) → applied limit st b move ≡ refused → applied (suc limit) st b move ≡ state m after → opens move ≡ true
+pub deep_opens : (limit : ℕ) (st : List Bracket) (b : ℕ) (move : Move) (m : Mode) (after : List Bracket)
+    → applied limit st b move ≡ refused → applied (suc limit) st b move ≡ state m after → opens move ≡ true
 deep_opens limit st b move m after e more = grind arith
 
 -- a refused bracket is one too many, and could stand under one more
-pub opens_deeper : (limit : ℕ) (st : List Bracket) (b : ℕ) (move : Move) → length st ≤ limit → opens move ≡ true → (m : Mode) × (after : List Bracket) × (applied (suc limit) st b move ≡ state m after)
-opens_deeper limit st b (Open bracket) h e = (Fresh, bracket ∷ st, rw (lt-ltb (length st) (suc limit) (omega arith)) refl)
+pub opens_deeper : (limit : ℕ) (st : List Bracket) (b : ℕ) (move : Move) → length st ≤ limit → opens move ≡ true
+    → (m : Mode) × (after : List Bracket) × (applied (suc limit) st b move ≡ state m after)
+opens_deeper limit st b (Open bracket) h e =
+    (Fresh, bracket ∷ st, rw (lt-ltb (length st) (suc limit) (omega arith)) refl)
 opens_deeper limit st b move h e = absurd (false≢true e)
 
 -- no bracket opens in a string
@@ -179,6 +210,7 @@ pub string_shut : (r : Role) (place : Place) (b : ℕ) → opens (string_move r 
 string_shut r place b = grind arith
 
 -- ---- bytes that leave the machine as it is
-pub stay_run : (m : Mode) (st : List Bracket) (xs : List ℕ) → AllByRecursion (λ b. moved m (top st) b ≡ To m) xs → run 128 (state m st) xs ≡ state m st
+pub stay_run : (m : Mode) (st : List Bracket) (xs : List ℕ) → AllByRecursion (λ b. moved m (top st) b ≡ To m) xs
+    → run 128 (state m st) xs ≡ state m st
 stay_run m st [] all = refl
 stay_run m st (x ∷ xs) all = ap (λ move. run 128 (applied 128 st x move) xs) all.0 ∙ stay_run m st xs all.1

@@ -40,8 +40,10 @@ pub record IsLed (c : ℕ) : Type 0 where
   pub led : tail_led first ≡ Some tail
   pub completes : Completes more tail
 
-is_led : (c first : ℕ) (more : List ℕ) (tail : Tail) → encode_utf8 c ≡ first ∷ more → tail_led first ≡ Some tail → Completes more tail → IsLed c
-is_led c first more tail spells led completes = record { first = first; more = more; tail = tail; spells = spells; led = led; completes = completes }
+is_led : (c first : ℕ) (more : List ℕ) (tail : Tail) → encode_utf8 c ≡ first ∷ more → tail_led first ≡ Some tail
+    → Completes more tail → IsLed c
+is_led c first more tail spells led completes =
+    record { first = first; more = more; tail = tail; spells = spells; led = led; completes = completes }
 
 follow : (x : ℕ) → tail_fits One (next x) ≡ true
 follow x = grind (arith, nat_tests)
@@ -78,7 +80,8 @@ two_char b x s bl bh xl xh none =
     let c : ℕ = (b - 192) * 64 + (x - 128) in
     rw none (c, low_scalar c (omega arith), omega arith, grind (arith, encode_two c (omega arith) (omega arith)))
 
-three_char : (b x : ℕ) (s : List ℕ) → 224 ≤ b → b ≤ 239 → 128 ≤ x → x ≤ 191 → (b ≡ 224 → 160 ≤ x) → (b ≡ 237 → x < 160) → Completes s One → IsChar (b ∷ x ∷ s)
+three_char : (b x : ℕ) (s : List ℕ) → 224 ≤ b → b ≤ 239 → 128 ≤ x → x ≤ 191 → (b ≡ 224 → 160 ≤ x) → (b ≡ 237 → x < 160)
+    → Completes s One → IsChar (b ∷ x ∷ s)
 three_char b x [] bl bh xl xh long low h = absurd h
 three_char b x (y ∷ s) bl bh xl xh long low h =
     let f = fitted 128 191 y h.0 in
@@ -86,7 +89,8 @@ three_char b x (y ∷ s) bl bh xl xh long low h =
     let least : 2048 ≤ c = grind arith in
     rw h.1 (c, grind arith, omega arith, grind (arith, encode_three c least (omega arith)))
 
-four_char : (b x : ℕ) (s : List ℕ) → 240 ≤ b → b ≤ 244 → 128 ≤ x → x ≤ 191 → (b ≡ 240 → 144 ≤ x) → (b ≡ 244 → x < 144) → Completes s Two → IsChar (b ∷ x ∷ s)
+four_char : (b x : ℕ) (s : List ℕ) → 240 ≤ b → b ≤ 244 → 128 ≤ x → x ≤ 191 → (b ≡ 240 → 144 ≤ x) → (b ≡ 244 → x < 144)
+    → Completes s Two → IsChar (b ∷ x ∷ s)
 four_char b x (y ∷ z ∷ s) bl bh xl xh long low h =
     let f = fitted 128 191 y h.0 in
     let g = fitted 128 191 z h.1.0 in

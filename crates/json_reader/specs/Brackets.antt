@@ -1,4 +1,5 @@
--- Open brackets as the digits of a number in base 2. Only the model of a private type cites this. This project's own.
+-- Open brackets as the digits of a number in base 2. Only the model of a private type cites this.
+-- This project's own.
 use Rattle.std.specs.Prelude.{ℕ, zero, suc, ◌/◌, ◌%◌, List, [], ◌∷◌, ◌==◌, if◌then◌else◌}
 use Rattle.json_reader.specs.declared.brackets.Bracket.{Bracket}
 use Rattle.json_reader.specs.declared.brackets.Bracket.TheVariants.{Square, Curly}

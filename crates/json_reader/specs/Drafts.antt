@@ -1,4 +1,5 @@
--- What is written of an object under way. Only contracts of private functions cite this. This project's own.
+-- What is written of an object under way. Only contracts of private functions cite this. This
+-- project's own.
 use Rattle.std.specs.Prelude.{◌≡◌, ℕ, ◌+◌, List, [], ◌∷◌, ◌++◌, Option, None, Some, length, map}
 use Rattle.std.specs.List.{join_with_byte}
 use Rattle.json_text.specs.Compact.{Member, collapsed}
@@ -13,9 +14,9 @@ pair_text member = member.0 ++ 58 ∷ member.1
 abbrev pub pairs_text : List Member → List ℕ
 pairs_text members = join_with_byte 44 (map pair_text members)
 
--- Of the innermost object that is open, or of the text outside objects: its text, where what stands behind its last
--- colon or comma begins, where the name of the member under way stands, where its whole members stand, and how many
--- arrays are open in it.
+-- Of the innermost object that is open, or of the text outside objects: its text, where what stands
+-- behind its last colon or comma begins, where the name of the member under way stands, where its
+-- whole members stand, and how many arrays are open in it.
 pub record Drafted : Type 0 where
   pub text : List ℕ
   pub from : ℕ
@@ -42,7 +43,8 @@ placed_to end draft = placed draft.places draft.name (record { start = draft.fro
 
 -- a name ends at an offset, or a member
 abbrev pub named : ℕ → Drafted → Drafted
-named end draft = record draft { name = Some (record { start = draft.from; end = end }); from = end + 1 }
+named end draft =
+    record draft { name = Some (record { start = draft.from; end = end }); from = end + 1 }
 
 abbrev pub parted : ℕ → Drafted → Drafted
 parted end draft = record draft { places = placed_to end draft; name = None; from = end + 1 }

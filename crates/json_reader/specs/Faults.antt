@@ -4,8 +4,8 @@ use Rattle.json_text.specs.Value.{IsFaulty, IsTooDeepBracket, IsBadUtf8, IsBadSy
 use Rattle.json_reader.specs.declared.fault.JsonFault.{JsonFault}
 use Rattle.json_reader.specs.declared.fault.JsonFault.TheVariants.{Syntax, Depth, Utf8}
 
--- The fault is told by the longest stretch from the offset on that some continuation makes a value; its place counts
--- over all bytes. This project's own.
+-- The fault is told by the longest stretch from the offset on that some continuation makes a value;
+-- its place counts over all bytes. This project's own.
 abbrev pub IsJsonFault : List ℕ → ℕ → JsonFault → Type 0
 IsJsonFault bytes at (Syntax place) = (n : ℕ) × (place ≡ at + n) × IsBadSyntax (drop at bytes) n
 IsJsonFault bytes at (Depth place) = (n : ℕ) × (place ≡ at + n) × IsTooDeepBracket (drop at bytes) n

@@ -9,21 +9,21 @@ abbrev pub behind_space : List ℕ → List ℕ
 behind_space [] = []
 behind_space (b ∷ bytes) = if is_space b then behind_space bytes else b ∷ bytes
 
--- What is seen of a feed: the bytes that were used since the end of the last value, behind the white space at their
--- front; how many bytes were used in all; and the fault that it has met.
+-- What is seen of a feed: the bytes that were used since the end of the last value, behind the
+-- white space at their front; how many bytes were used in all; and the fault that it has met.
 pub record Feeding : Type 0 where
   pub rest : List ℕ
   pub used : ℕ
   pub fault : Option JsonFault
 
--- Some continuation makes these bytes a value behind white space, and none has ended with them: one that has stands
--- there whatever follows.
+-- Some continuation makes these bytes a value behind white space, and none has ended with them: one
+-- that has stands there whatever follows.
 pub record IsUnderWay (bytes : List ℕ) : Type 0 where
   pub begins : Begins 128 bytes
   pub unended : (text : List ℕ) → ((more : List ℕ) → Stands (bytes ++ more) text more) → ⊥
 
--- The feed has used the bytes of this stream but for those that are left, the last value ended at this offset, and no
--- fault was met.
+-- The feed has used the bytes of this stream but for those that are left, the last value ended at
+-- this offset, and no fault was met.
 pub record IsAt (stream : List ℕ) (start : ℕ) (left : List ℕ) (feed : Feeding) : Type 0 where
   pub within : start ≤ length stream
   pub stretch : List ℕ

@@ -1,5 +1,5 @@
--- What each byte does to the machine that reads a value. This project's own, over the grammar of RFC 8259.
--- Only contracts of private functions cite this.
+-- What each byte does to the machine that reads a value. This project's own, over the grammar of
+-- RFC 8259. Only contracts of private functions cite this.
 use Rattle.std.specs.Prelude.{◌≡◌, ℕ, zero, suc, ◌+◌, ◌-◌, Option, Some, None, List, [], ◌∷◌, length, drop, slice_index, is_none, Bool, true, false, not, ◌&&◌, ◌||◌, ◌==◌, nat_lt, nat_le, if◌then◌else◌}
 use Rattle.json_text.specs.Characters.{is_space, is_digit, is_hex}
 use Rattle.json_text.specs.Tree.{Container, array, object, closing, letter_meaning}
@@ -41,7 +41,8 @@ part_after Zero b = after_whole b
 part_after Whole b = if is_digit b then Some Whole else after_whole b
 part_after Dot b = if is_digit b then Some Fraction else None
 part_after Fraction b = if is_digit b then Some Fraction else after_fraction b
-part_after Letter b = if b == 43 || b == 45 then Some Sign else (if is_digit b then Some Exponent else None)
+part_after Letter b =
+    if b == 43 || b == 45 then Some Sign else (if is_digit b then Some Exponent else None)
 part_after Sign b = if is_digit b then Some Exponent else None
 part_after Exponent b = if is_digit b then Some Exponent else None
 
@@ -146,7 +147,8 @@ after_move (Some bracket) b =
     else (if b == 44 then To (after_comma bracket)
     else Refuse))
 
--- what a byte does in a number, by the part that it goes on with and by whether the number may end before it
+-- what a byte does in a number, by the part that it goes on with and by whether the number may end
+-- before it
 abbrev pub number_move_on : Option Part → Bool → Option Bracket → ℕ → Move
 number_move_on (Some part) ends top b = To (Number part)
 number_move_on None ends top b = if ends then after_move top b else Refuse
@@ -197,7 +199,8 @@ string_move r Plain b =
     else (if nat_lt b 0x80 then To (Quoted r Plain)
     else led_on r (tail_led b))))
 string_move r Escape b =
-    if b == 117 then To (Quoted r (Hex 3)) else (if letter_meaning b == 0 then Refuse else To (Quoted r Plain))
+    if b == 117 then To (Quoted r (Hex 3)) else (if letter_meaning b == 0 then Refuse else To
+    (Quoted r Plain))
 string_move r (Hex more) b = if is_hex b then To (Quoted r (after_digit more)) else Refuse
 string_move r (Sequence length tail) b = if tail_fits tail b then To
     (Quoted r (in_sequence length (tail_after tail))) else Refuse
@@ -213,11 +216,12 @@ moved Name top b = if is_space b then To Name else first_move Curly b
 moved Colon top b = if is_space b then To Colon else (if b == 58 then To Mode.Value else Refuse)
 moved After top b = after_move top b
 moved (Quoted r place) top b = string_move r place b
-moved (Number part) top b = number_move_on (part_after part b) (is_complete part && not (extends_number b)) top b
+moved (Number part) top b =
+    number_move_on (part_after part b) (is_complete part && not (extends_number b)) top b
 moved (Word letters) top b = if first_letter letters == b then To (after_letter letters) else Refuse
 
--- What comes of a byte: a mode and the open brackets, the innermost first; the value has ended before this byte; or no
--- value goes on with it.
+-- What comes of a byte: a mode and the open brackets, the innermost first; the value has ended
+-- before this byte; or no value goes on with it.
 pub data Outcome : Type 0 where
   state : Mode → List Bracket → Outcome
   ended : ℕ → Outcome
@@ -231,7 +235,8 @@ top (bracket ∷ st) = Some bracket
 -- what comes of a move, where at most so many brackets may be open
 abbrev pub applied : ℕ → List Bracket → ℕ → Move → Outcome
 applied limit st b (To m) = state m st
-applied limit st b (Open bracket) = if nat_lt (length st) limit then state Fresh (bracket ∷ st) else refused
+applied limit st b (Open bracket) =
+    if nat_lt (length st) limit then state Fresh (bracket ∷ st) else refused
 applied limit st b Close = state After (drop 1 st)
 applied limit st b End = ended b
 applied limit st b Refuse = refused

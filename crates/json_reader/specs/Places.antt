@@ -18,7 +18,8 @@ entries bytes places = map (entry bytes) places
 -- a number below 256 by the length of a quoted name, its last byte and one in its middle
 abbrev pub mark_of : List ℕ → ℕ
 mark_of name = if nat_lt (length name) 2 then 0 else
-    ((length name + 6 * slice_index name (length name - 2)) + 5 * slice_index name (length name / 2)) % 256
+    ((length name + 6 * slice_index name (length name - 2)) + 5 * slice_index name
+    (length name / 2)) % 256
 
 abbrev pub IsWithin : ℕ → Span → Type 0
 IsWithin size span = (span.start ≤ span.end) × (span.end ≤ size)

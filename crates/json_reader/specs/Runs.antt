@@ -24,7 +24,8 @@ is_over After [] = true
 is_over Fresh [] = true
 is_over m st = false
 
--- The bytes of a value under way, which are nothing or begin with no white space: the value isn't over.
+-- The bytes of a value under way, which are nothing or begin with no white space: the value isn't
+-- over.
 pub record IsKept (rest : List ℕ) : Type 0 where
   pub mode : Mode
   pub brackets : List Bracket

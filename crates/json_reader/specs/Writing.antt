@@ -1,5 +1,5 @@
--- What each byte of a value makes of what was written of the value. Only contracts of private functions cite this.
--- This project's own, over RFC 8259, sections 2 to 7.
+-- What each byte of a value makes of what was written of the value. Only contracts of private
+-- functions cite this. This project's own, over RFC 8259, sections 2 to 7.
 use Rattle.std.specs.Prelude.{◌≡◌, ℕ, ◌+◌, ◌-◌, ◌<◌, ◌≤◌, length, take, drop, slice_get, slice_index, slice_index_or, List, [], ◌∷◌, ◌++◌, Option, None, Some, Bool, true, false, ◌==◌, ◌&&◌, ◌⊎◌, if◌then◌else◌}
 use Rattle.std.specs.List.{AllByRecursion}
 use Rattle.json_text.specs.Characters.{is_space, is_blank, is_plain, is_digit, quote}
@@ -19,8 +19,8 @@ pub use Rattle.json_reader.specs.declared.writing.Deed.{Deed}
 pub use Rattle.json_reader.specs.declared.writing.Deed.TheVariants.{Skip, Begin, Keep, Slash, Finish, Open, Shut, Name, Part, Deepen, Rise, Push}
 pub use Rattle.json_reader.specs.declared.writing.Writer.{Writer}
 
--- Where a writer stands: in a string, of which these bytes came, an escape among them; in the innermost object that is
--- open, and in those around it, the outermost first.
+-- Where a writer stands: in a string, of which these bytes came, an escape among them; in the
+-- innermost object that is open, and in those around it, the outermost first.
 pub record Writing : Type 0 where
   pub place : Place
   pub escapes : Bool
@@ -30,7 +30,8 @@ pub record Writing : Type 0 where
 
 -- outside strings
 abbrev pub between : Drafted → List Drafted → Writing
-between here around = record { place = outside; escapes = false; string = []; here = here; around = around }
+between here around =
+    record { place = outside; escapes = false; string = []; here = here; around = around }
 
 -- the bytes between two offsets
 abbrev pub stretch : List ℕ → ℕ → ℕ → List ℕ
@@ -92,9 +93,11 @@ Can d w b = Unit {0}
 -- what comes of it
 abbrev pub Done : Deed → Writing → ℕ → Writing → Type 0
 Done Skip w b new = new ≡ w
-Done Begin w b new = new ≡ record w { place = inside false; escapes = false; string = w.string ++ b ∷ [] }
+Done Begin w b new =
+    new ≡ record w { place = inside false; escapes = false; string = w.string ++ b ∷ [] }
 Done Keep w b new = new ≡ record w { place = inside false; string = w.string ++ b ∷ [] }
-Done Slash w b new = new ≡ record w { place = inside true; escapes = true; string = w.string ++ b ∷ [] }
+Done Slash w b new =
+    new ≡ record w { place = inside true; escapes = true; string = w.string ++ b ∷ [] }
 Done Finish w b new = (text : List ℕ) → Quoted (w.string ++ b ∷ []) text []
     → new ≡ between (grown w.here (quote text)) w.around
 Done Open w b new = new ≡ record w { here = fresh; around = w.around ++ grown w.here (b ∷ []) ∷ [] }
@@ -102,8 +105,10 @@ Done Shut w b new = (outer : List Drafted) (next : Drafted) → w.around ≡ out
     → new ≡ record w { here = grown (grown next (closed w.here)) (b ∷ []); around = outer }
 Done Name w b new = new ≡ record w { here = grown (named (length w.here.text) w.here) (b ∷ []) }
 Done Part w b new = new ≡ record w { here = grown (parted (length w.here.text) w.here) (b ∷ []) }
-Done Deepen w b new = new ≡ record w { here = record (grown w.here (b ∷ [])) { level = w.here.level + 1 } }
-Done Rise w b new = new ≡ record w { here = record (grown w.here (b ∷ [])) { level = w.here.level - 1 } }
+Done Deepen w b new =
+    new ≡ record w { here = record (grown w.here (b ∷ [])) { level = w.here.level + 1 } }
+Done Rise w b new =
+    new ≡ record w { here = record (grown w.here (b ∷ [])) { level = w.here.level - 1 } }
 Done Push w b new = new ≡ record w { here = grown w.here (b ∷ []) }
 
 abbrev pub deed_at : Writing → ℕ → Deed
@@ -125,13 +130,16 @@ copied bytes to w = record w { here = grown w.here (stretch bytes w.from to); fr
 
 -- what comes of the byte at an offset
 pub record HasPut (d : Deed) (bytes : List ℕ) (next : ℕ) (old new : Writer) : Type 0 where
-  pub done : Done d (writing_at bytes next old) (slice_index bytes next) (writing_at bytes (next + 1) new)
+  pub done : Done d (writing_at bytes next old) (slice_index bytes next)
+      (writing_at bytes (next + 1) new)
   pub fits : Fits (next + 1) new
 
--- Each of these bytes may be taken, and however they are, this text and nothing else is written then.
+-- Each of these bytes may be taken, and however they are, this text and nothing else is written
+-- then.
 abbrev pub Ready : List ℕ → Writing → List ℕ → Type 0
 Ready text w [] = w ≡ between (grown fresh text) []
-Ready text w (b ∷ bytes) = Can (deed_at w b) w b × ((new : Writing) → Done (deed_at w b) w b new → Ready text new bytes)
+Ready text w (b ∷ bytes) =
+    Can (deed_at w b) w b × ((new : Writing) → Done (deed_at w b) w b new → Ready text new bytes)
 
 -- Whatever value behind white space these bytes begin, the writer is ready for the rest of it.
 abbrev pub HasWritten : List ℕ → Writing → Type 0
@@ -140,7 +148,8 @@ HasWritten bytes w =
     → blank ++ spelling tree ≡ bytes ++ more → Ready (compact tree) w more
 
 -- The machine has run over the bytes from an offset to the next one, and what they make is written.
-pub record HasRead (bytes : List ℕ) (at next : ℕ) (machine : Machine) (writer : Writer) : Type 0 where
+pub record HasRead (bytes : List ℕ) (at next : ℕ) (machine : Machine) (writer : Writer) :
+    Type 0 where
   pub low : at ≤ next
   pub high : next ≤ length bytes
   pub runs : run 128 start (stretch bytes at next) ≡ state machine.mode machine.brackets
@@ -149,7 +158,8 @@ pub record HasRead (bytes : List ℕ) (at next : ℕ) (machine : Machine) (write
 
 -- A step takes the machine on over this byte.
 abbrev pub GoesOn : Machine → ℕ → Machine → Type 0
-GoesOn before byte machine = step 128 before.mode before.brackets byte ≡ state machine.mode machine.brackets
+GoesOn before byte machine =
+    step 128 before.mode before.brackets byte ≡ state machine.mode machine.brackets
 
 -- Wherever the bytes were read from on: what was read up to an offset is read up to a later one.
 abbrev pub ReadsOn : List ℕ → ℕ → Machine → Writer → ℕ → Machine → Writer → Type 0
@@ -179,7 +189,8 @@ Came bytes at (taken.Through reader) = IsRead bytes at reader × (reader.next �
 Came bytes at (taken.Ended value end) = (at ≤ end) × (end ≤ length bytes) × EndsAt bytes at end
     × Stands (drop at bytes) value (drop end bytes)
 Came bytes at (taken.Refused machine next) =
-    (at ≤ next) × (next < length bytes) × (run 128 start (stretch bytes at next) ≡ state machine.mode machine.brackets)
+    (at ≤ next) × (next < length bytes)
+    × (run 128 start (stretch bytes at next) ≡ state machine.mode machine.brackets)
     × (step 128 machine.mode machine.brackets (slice_index bytes next) ≡ refused)
 
 -- No value goes on with these bytes, or none is whole where there are none.
@@ -187,8 +198,8 @@ abbrev pub Breaks : Mode → List Bracket → List ℕ → Type 0
 Breaks m st [] = Ends m st [] → ⊥
 Breaks m st (b ∷ more) = step 128 m st b ≡ refused
 
--- No value goes on with what is left of these bytes, and this fault is told of it, where so many bytes came with them
--- in all.
+-- No value goes on with what is left of these bytes, and this fault is told of it, where so many
+-- bytes came with them in all.
 pub record IsBroken (bytes left : List ℕ) (total : ℕ) (fault : JsonFault) : Type 0 where
   pub mode : Mode
   pub brackets : List Bracket
@@ -206,8 +217,8 @@ pub record IsRefusedIn (bytes : List ℕ) (total : ℕ) (fault : JsonFault) : Ty
   pub more : List ℕ
   pub broken : IsBroken bytes (byte ∷ more) total fault
 
--- What is left of these bytes, whose last ones are a piece, of which so many were used: all, where the value is under
--- way.
+-- What is left of these bytes, whose last ones are a piece, of which so many were used: all, where
+-- the value is under way.
 abbrev pub HasFed : List ℕ → List ℕ → List ℕ → ℕ → Option (List ℕ) → Type 0
 HasFed bytes piece left used None = (used ≡ length piece) × (left ≡ bytes) × IsKept left
 HasFed bytes piece left used (Some text) = (left ≡ []) × (used ≤ length piece) × (end : ℕ)

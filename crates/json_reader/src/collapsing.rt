@@ -24,13 +24,13 @@ pub(crate) struct Place {
     pub value: Span,
 }
 
-/// How many members are few, as an element's are: room is made for so many at once, and their names are compared one by
-/// one.
+/// How many members are few, as an element's are: room is made for so many at once, and their names
+/// are compared one by one.
 pub(crate) const FEW: usize = 40;
 
-/// Where a name comes again among the members that are all of the text, writes the text anew: the last value stands at
-/// the first one's place. Names are equal where their quotes are. Among many an ordered map finds them, so that no
-/// choice of names makes this slow.
+/// Where a name comes again among the members that are all of the text, writes the text anew: the
+/// last value stands at the first one's place. Names are equal where their quotes are. Among many
+/// an ordered map finds them, so that no choice of names makes this slow.
 pub(crate) fn collapse(
     alloc: Global,
     text: &mut Vec<u8>,
@@ -38,7 +38,8 @@ pub(crate) fn collapse(
 ) -> Result<(), AllocError>
     requires within { AreWithin (length text.old.items) places.now }
     requires written { text.old.items ≡ pairs_text (entries text.old.items places.now) }
-    ensures { OnOk result (text.new.items ≡ pairs_text (collapsed (entries text.old.items places.now))) }
+    ensures { OnOk result (text.new.items
+        ≡ pairs_text (collapsed (entries text.old.items places.now))) }
 {
     if places.len() <= FEW && are_distinct(text.as_slice(), places) {
         return Ok(());
@@ -52,7 +53,8 @@ pub(crate) fn collapse(
 /// Whether no name comes again. Only names with one mark are compared.
 fn are_distinct(bytes: &[u8], places: &[Place]) -> bool
     requires { AreWithin (length bytes.now) places.now }
-    ensures { IsTrue result → collapsed (entries bytes.now places.now) ≡ entries bytes.now places.now }
+    ensures { IsTrue result → collapsed (entries bytes.now places.now)
+        ≡ entries bytes.now places.now }
 {
     let mut seen = [false; 256];
     for (i, place) in places.iter().enumerate() {
@@ -66,8 +68,8 @@ fn are_distinct(bytes: &[u8], places: &[Place]) -> bool
     true
 }
 
-/// A number below 256 that is the same for equal names, and mostly another one for others: the names of an element's
-/// members have one each.
+/// A number below 256 that is the same for equal names, and mostly another one for others: the
+/// names of an element's members have one each.
 fn mark_of(name: &[u8]) -> usize
     ensures value { result ≡ mark_of name.now }
     ensures small { result < 256 }
@@ -83,7 +85,8 @@ fn mark_of(name: &[u8]) -> usize
 /// Whether the name is one of those at these places. It is none of them if its mark wasn't seen.
 fn comes_again(bytes: &[u8], name: &[u8], seen: bool, places: &[Place]) -> bool
     requires within { AreWithin (length bytes.now) places.now }
-    requires marked { seen ≡ false → list_any (bytes_eq name.now) (names_of (entries bytes.now places.now)) ≡ false }
+    requires marked { seen ≡ false
+        → list_any (bytes_eq name.now) (names_of (entries bytes.now places.now)) ≡ false }
     ensures { result ≡ list_any (bytes_eq name.now) (names_of (entries bytes.now places.now)) }
 {
     if !seen {
@@ -107,7 +110,8 @@ fn kept_places(
     ensures kept { IfOk result (λ found. MatchOption found
         (collapsed (entries bytes.now places.now) ≡ entries bytes.now places.now)
         (λ kept. entries bytes.now kept.items ≡ collapsed (entries bytes.now places.now))) }
-    ensures within { IfOk result (λ found. IfSome found (λ kept. AreWithin (length bytes.now) kept.items)) }
+    ensures within { IfOk result (λ found. IfSome found
+        (λ kept. AreWithin (length bytes.now) kept.items)) }
 {
     let mut kept: Vec<Place> = Vec::new(alloc);
     let mut known: BTreeMap<&[u8], usize> = BTreeMap::new(alloc);
@@ -133,7 +137,8 @@ fn keep_last(kept: &mut Vec<Place>, first: usize, value: Span)
     requires { first < length kept.old.items }
     ensures { kept.new.items ≡ slice_set kept.old.items first
         (record {
-          name = (slice_index_or kept.old.items first (record { name = value; value = value })).name;
+          name =
+              (slice_index_or kept.old.items first (record { name = value; value = value })).name;
           value = value;
         }) }
 {

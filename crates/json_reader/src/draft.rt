@@ -13,8 +13,8 @@ use std::mem::swap;
 /// So many bytes of text are few, as most elements have.
 const FEW_BYTES: usize = 4096;
 
-/// What is written of the innermost object that is open, behind its bracket, or of the text outside objects. Bytes that
-/// are still to be appended may stand before the offsets.
+/// What is written of the innermost object that is open, behind its bracket, or of the text
+/// outside objects. Bytes that are still to be appended may stand before the offsets.
 pub(crate) struct Draft {
     text: Vec<u8>,
     /// Where the text behind the last colon or comma of the object begins.
@@ -98,8 +98,8 @@ impl Draft {
         Ok(())
     }
 
-    /// Appends the text of an inner object, which may be long. Behind a single byte, as the outermost object has it, it
-    /// stays where it is.
+    /// Appends the text of an inner object, which may be long. Behind a single byte, as the
+    /// outermost object has it, it stays where it is.
     pub(crate) fn append(&mut self, inner: &mut Draft) -> Result<(), AllocError>
         ensures { OnOk result (self.new ≡ grown self.old inner.old.text) }
     {
@@ -149,7 +149,8 @@ impl Draft {
 
     /// A comma comes behind these bytes, which are still to be appended: a member ends.
     pub(crate) fn end_member(&mut self, ahead: &[u8]) -> Result<(), AllocError>
-        ensures { OnOk result (self.new ≡ parted (length self.old.text + length ahead.now) self.old) }
+        ensures { OnOk result (self.new ≡ parted (length self.old.text + length ahead.now)
+            self.old) }
     {
         let end = self.text.len() + ahead.len();
         let value = Span {

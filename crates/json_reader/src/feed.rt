@@ -22,11 +22,13 @@ use std::mem::replace;
 pub struct Fed {
     /// How many bytes of the piece were used.
     pub used: usize,
-    /// The value that has ended with them. A number ends before the first byte that isn't part of it.
+    /// The value that has ended with them. A number ends before the first byte that isn't part of
+    /// it.
     pub value: Option<Raw>,
 }
 
-/// A reader of values from pieces of a stream. It keeps no earlier bytes than those of the value under way.
+/// A reader of values from pieces of a stream. It keeps no earlier bytes than those of the value
+/// under way.
 pub struct Feed {
     /// It has read a first part of the rest.
     reader: Reader,
@@ -80,8 +82,9 @@ impl Feed {
         self.used as u64
     }
 
-    /// Uses the piece up to the end of the first value that ends in it, or all of it. A fault is the first one of the
-    /// stream, with its place there, as soon as no continuation makes a value; it is kept.
+    /// Uses the piece up to the end of the first value that ends in it, or all of it. A fault is
+    /// the first one of the stream, with its place there, as soon as no continuation makes a value;
+    /// it is kept.
     #[tactic(auto, using(crate::proofs::Feeds::going_on))]
     pub fn feed(&mut self, piece: &[u8]) -> Result<Fed, Stop<JsonFault>>
         requires { self.old.used + length piece.now < 2 ^ 64 }
@@ -99,17 +102,22 @@ impl Feed {
             → 0 < length self.old.rest + fed.used) }
         ensures faulty { (fault : JsonFault) → result ≡ Err (Stop.Fault fault)
             → self.new ≡ record self.old { fault = Some fault } }
-        ensures again { (fault : JsonFault) → self.old.fault ≡ Some fault → result ≡ Err (Stop.Fault fault) }
+        ensures again { (fault : JsonFault) → self.old.fault ≡ Some fault
+            → result ≡ Err (Stop.Fault fault) }
         ensures memory { result ≡ Err Stop.Memory → self.new ≡ self.old }
 
-        // Wherever the feed stands in a stream: it goes on there; the value stands there, however the stream goes on;
-        // and so does the first fault.
+        // Wherever the feed stands in a stream: it goes on there; the value stands there, however
+        // the stream goes on; and so does the first fault.
         ensures going { IfOk result (λ fed. fed.value ≡ None → (stream : List ℕ) (start : ℕ)
             → IsAt stream start piece.now self.old → IsAt stream start [] self.new) }
-        ensures value { IfOk result (λ fed. (text : List ℕ) → fed.value ≡ Some text → (stream : List ℕ) (start : ℕ)
-            → IsAt stream start piece.now self.old → (after : ℕ) × IsAt stream after (drop fed.used piece.now) self.new
-            × ((more : List ℕ) → Stands (drop start stream ++ more) text (drop after stream ++ more))) }
-        ensures first { (fault : JsonFault) → result ≡ Err (Stop.Fault fault) → (stream : List ℕ) (start : ℕ)
+        ensures value { IfOk result (λ fed. (text : List ℕ) → fed.value ≡ Some text
+            → (stream : List ℕ) (start : ℕ)
+            → IsAt stream start piece.now self.old → (after : ℕ)
+            × IsAt stream after (drop fed.used piece.now) self.new
+            × ((more : List ℕ) → Stands (drop start stream ++ more) text (drop after stream
+            ++ more))) }
+        ensures first { (fault : JsonFault) → result ≡ Err (Stop.Fault fault)
+            → (stream : List ℕ) (start : ℕ)
             → IsAt stream start piece.now self.old → (is_blank (drop start stream) ≡ false)
             × ((more : List ℕ) → IsFirstFault (stream ++ more) start fault) }
     {
@@ -129,27 +137,33 @@ impl Feed {
         }
     }
 
-    /// Ends the stream, and gives a number that only the end has ended. `None` comes exactly where nothing or white
-    /// space alone stands behind the last value, so that a further value is missing at the stream's end; a fault, where
-    /// a value has begun and isn't whole, and it is kept.
+    /// Ends the stream, and gives a number that only the end has ended. `None` comes exactly where
+    /// nothing or white space alone stands behind the last value, so that a further value is
+    /// missing at the stream's end; a fault, where a value has begun and isn't whole, and it is
+    /// kept.
     pub fn end(&mut self) -> Result<Option<Raw>, Stop<JsonFault>>
-        ensures none { IfOk result (λ found. found ≡ None → (self.old.rest ≡ []) × (self.new ≡ self.old)) }
+        ensures none { IfOk result (λ found. found ≡ None → (self.old.rest ≡ [])
+            × (self.new ≡ self.old)) }
         ensures emptied { IfOk result (λ found. (text : List ℕ) → found ≡ Some text
             → self.new ≡ record { rest = []; used = self.old.used; fault = None }) }
         ensures faulty { (fault : JsonFault) → result ≡ Err (Stop.Fault fault)
             → self.new ≡ record self.old { fault = Some fault } }
-        ensures again { (fault : JsonFault) → self.old.fault ≡ Some fault → result ≡ Err (Stop.Fault fault) }
+        ensures again { (fault : JsonFault) → self.old.fault ≡ Some fault
+            → result ≡ Err (Stop.Fault fault) }
         ensures memory { result ≡ Err Stop.Memory → self.new ≡ self.old }
 
-        // Wherever the feed stands in a stream, at its end: white space alone is left; or the value stands there, and
-        // nothing behind it; or the first fault.
+        // Wherever the feed stands in a stream, at its end: white space alone is left; or the value
+        // stands there, and nothing behind it; or the first fault.
         ensures blank { IfOk result (λ found. found ≡ None → (stream : List ℕ) (start : ℕ)
             → IsAt stream start [] self.old → (is_blank (drop start stream) ≡ true)
             × IsFirstFault stream start (JsonFault.Syntax self.old.used)) }
-        ensures value { IfOk result (λ found. (text : List ℕ) → found ≡ Some text → (stream : List ℕ) (start : ℕ)
+        ensures value { IfOk result (λ found. (text : List ℕ) → found ≡ Some text
+            → (stream : List ℕ) (start : ℕ)
             → IsAt stream start [] self.old → Stands (drop start stream) text []) }
-        ensures first { (fault : JsonFault) → result ≡ Err (Stop.Fault fault) → (stream : List ℕ) (start : ℕ)
-            → IsAt stream start [] self.old → (is_blank (drop start stream) ≡ false) × IsFirstFault stream start fault }
+        ensures first { (fault : JsonFault) → result ≡ Err (Stop.Fault fault)
+            → (stream : List ℕ) (start : ℕ)
+            → IsAt stream start [] self.old → (is_blank (drop start stream) ≡ false)
+            × IsFirstFault stream start fault }
     {
         if let Some(fault) = self.fault {
             return Err(Stop::Fault(fault));
@@ -196,7 +210,8 @@ fn read_piece(
     }
 }
 
-/// Reads the first piece of a value where it stands, behind white space, and keeps it only where the value goes on.
+/// Reads the first piece of a value where it stands, behind white space, and keeps it only where
+/// the value goes on.
 #[tactic(auto, using(crate::proofs::Feeds::space_within, crate::proofs::Feeds::first_bytes, crate::proofs::Feeds::fed_steps))]
 fn read_first(
     reader: &mut Reader,
@@ -235,8 +250,8 @@ fn read_first(
     }
 }
 
-/// Reads a further piece of a value, behind the rest. Where memory is wanting, the next reading begins with the rest
-/// anew.
+/// Reads a further piece of a value, behind the rest. Where memory is wanting, the next reading
+/// begins with the rest anew.
 #[tactic(auto, using(crate::proofs::Feeds::behind_on, crate::proofs::Feeds::late_ended, crate::proofs::Feeds::late_refused, crate::proofs::Feeds::fed_steps))]
 fn read_more(
     reader: &mut Reader,
@@ -285,7 +300,8 @@ fn read_more(
     }
 }
 
-/// The value that only the stream's end has ended, of which the rest is all; or the fault there, with this place.
+/// The value that only the stream's end has ended, of which the rest is all; or the fault there,
+/// with this place.
 #[tactic(auto, using(crate::proofs::Feeds::end_steps))]
 fn read_end(
     alloc: Global,
@@ -296,7 +312,8 @@ fn read_end(
     requires read { IsRead rest.now 0 reader.old }
     requires kept { IsKept rest.now }
     ensures value { IfOk result (λ value. Stands rest.now value []) }
-    ensures fault { (fault : JsonFault) → result ≡ Err (Stop.Fault fault) → IsBroken rest.now [] place fault }
+    ensures fault { (fault : JsonFault) → result ≡ Err (Stop.Fault fault)
+        → IsBroken rest.now [] place fault }
     ensures read { (bytes : List ℕ) → IsRead bytes 0 reader.new }
 {
     match read_on(alloc, reader, rest)? {
@@ -307,7 +324,8 @@ fn read_end(
     }
 }
 
-/// Reads these bytes, the first ones of which were read before, and leaves a reader that begins anew.
+/// Reads these bytes, the first ones of which were read before, and leaves a reader that begins
+/// anew.
 fn read_on(alloc: Global, reader: &mut Reader, bytes: &[u8]) -> Result<Taken, AllocError>
     requires { IsRead bytes.now 0 reader.old }
     ensures came { IfOk result (λ taken. Came bytes.now 0 taken) }

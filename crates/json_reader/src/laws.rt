@@ -14,6 +14,7 @@ pub fn first_fault_is_unique()
 /// At each offset a value stands behind white space, or there is a first fault.
 pub fn value_or_fault_exists()
     ensures { (bytes : List ℕ) (at : ℕ) → at ≤ length bytes
-        → ((text : List ℕ) × (end : ℕ) × (end ≤ length bytes) × Stands (drop at bytes) text (drop end bytes))
+        → ((text : List ℕ) × (end : ℕ) × (end ≤ length bytes)
+        × Stands (drop at bytes) text (drop end bytes))
         ⊎ ((fault : JsonFault) × IsFirstFault bytes at fault) }
 {}

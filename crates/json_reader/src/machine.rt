@@ -1,6 +1,7 @@
 //! The machine that reads one value, a byte at a time.
 //!
-//! Its state is a mode and the brackets that are open. It takes no memory and can be kept between calls.
+//! Its state is a mode and the brackets that are open. It takes no memory and can be kept between
+//! calls.
 
 ghost use Rattle.std.specs.Prelude.{◌≡◌, ◌↔◌, ◌-◌, ◌≤◌, IsTrue, [], false, take, drop, length};
 ghost use Rattle.std.specs.List.{AllByRecursion};
@@ -113,8 +114,8 @@ impl Machine {
         }
     }
 
-    /// Takes one byte more, unless no value goes on with it. Few bytes need it: it is one call, for which the machine
-    /// stays in memory.
+    /// Takes one byte more, unless no value goes on with it. Few bytes need it: it is one call, for
+    /// which the machine stays in memory.
     #[inline(never)]
     pub(crate) fn step(&mut self, byte: u8) -> Step
         ensures { Stepped self.old self.new result byte }
@@ -136,12 +137,14 @@ impl Machine {
         Step::On
     }
 
-    /// Where a stretch from `at` on ends whose bytes all leave the machine as it is, on this ground.
+    /// Where a stretch from `at` on ends whose bytes all leave the machine as it is, on this
+    /// ground.
     #[inline(always)]
     pub(crate) fn stay_end(&self, ground: Ground, bytes: &[u8], at: usize) -> usize
         requires { at ≤ length bytes.now }
         ensures within { (at ≤ result) × (result ≤ length bytes.now) }
-        ensures stays { AllByRecursion (λ b. moved self.now.mode (top self.now.brackets) b ≡ To self.now.mode)
+        ensures stays { AllByRecursion (λ b. moved self.now.mode (top self.now.brackets) b
+            ≡ To self.now.mode)
             (take (result - at) (drop at bytes.now)) }
         ensures alike { AreAlike ground (take (result - at) (drop at bytes.now)) }
     {
@@ -202,7 +205,8 @@ impl Machine {
         true
     }
 
-    /// Takes a letter of a word, a bracket, or a space where a value must come; other bytes it leaves.
+    /// Takes a letter of a word, a bracket, or a space where a value must come; other bytes it
+    /// leaves.
     #[inline(always)]
     pub(crate) fn follow(&mut self, byte: u8) -> bool
         ensures taken { IsTrue result → step 128 self.old.mode self.old.brackets byte
@@ -324,7 +328,8 @@ impl Machine {
         }
     }
 
-    /// The fault where the text ends at this offset or goes on with this byte there, and no value does.
+    /// The fault where the text ends at this offset or goes on with this byte there, and no value
+    /// does.
     pub(crate) fn fault(&self, byte: Option<u8>, at: usize) -> JsonFault
         ensures { result ≡ fault_of self.now.mode (top self.now.brackets) byte at }
     {

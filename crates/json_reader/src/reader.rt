@@ -1,6 +1,7 @@
 //! Reading one value from bytes that may come in pieces.
 //!
-//! The machine says of each byte whether a value goes on with it, and the writer takes it in the same pass.
+//! The machine says of each byte whether a value goes on with it, and the writer takes it in the
+//! same pass.
 
 ghost use Rattle.std.specs.Prelude.{◌≡◌, ℕ, ◌+◌, ◌<◌, ◌≤◌, List, [], Err, length, drop, slice_index, IfOk, OnOk};
 ghost use Rattle.json_text.specs.Value.{Stands};
@@ -48,11 +49,12 @@ impl Reader {
         }
     }
 
-    /// Reads on to the value's end, to a byte that is refused, or to the end of these bytes, which begin with those
-    /// that were read before.
+    /// Reads on to the value's end, to a byte that is refused, or to the end of these bytes, which
+    /// begin with those that were read before.
     pub(crate) fn read(self, alloc: Global, bytes: &[u8]) -> Result<Taken, AllocError>
         requires { (at : ℕ) × IsRead bytes.now at self }
-        ensures { IfOk result (λ taken. (at : ℕ) → IsRead bytes.now at self → Came bytes.now at taken) }
+        ensures { IfOk result (λ taken. (at : ℕ) → IsRead bytes.now at self
+            → Came bytes.now at taken) }
     {
         let Reader {
             mut machine,
@@ -77,8 +79,8 @@ impl Reader {
         }))
     }
 
-    /// The value that ends with these bytes, all of which were read; or the fault where they break off, with this
-    /// place.
+    /// The value that ends with these bytes, all of which were read; or the fault where they break
+    /// off, with this place.
     pub(crate) fn finish(self, bytes: &[u8], place: usize) -> Result<Raw, Stop<JsonFault>>
         requires { (at : ℕ) × IsRead bytes.now at self × (self.next ≡ length bytes.now) }
         ensures value { IfOk result (λ value. (at : ℕ) → IsRead bytes.now at self
@@ -103,15 +105,16 @@ impl Reader {
 fn value_of(writer: Writer, bytes: &[u8], end: usize) -> Result<Raw, AllocError>
     requires { (at : ℕ) × (machine : Machine) × HasRead bytes.now at end machine writer
         × Ends machine.mode machine.brackets (drop end bytes.now) }
-    ensures { IfOk result (λ value. (at : ℕ) (machine : Machine) → HasRead bytes.now at end machine writer
+    ensures { IfOk result (λ value. (at : ℕ) (machine : Machine)
+        → HasRead bytes.now at end machine writer
         → Ends machine.mode machine.brackets (drop end bytes.now)
         → Stands (drop at bytes.now) value (drop end bytes.now)) }
 {
     Ok(Raw::from_compact(writer.into_text(bytes, end)?)?)
 }
 
-/// Writes the byte at an offset, which the machine has taken, and takes the stretch behind it that leaves the machine
-/// as it is. It gives the offset after them.
+/// Writes the byte at an offset, which the machine has taken, and takes the stretch behind it that
+/// leaves the machine as it is. It gives the offset after them.
 #[inline(always)]
 fn take(
     alloc: Global,
@@ -124,8 +127,10 @@ fn take(
     requires read { (at : ℕ) × (before : Machine) × HasRead bytes.now at next before writer.old
         × GoesOn before (slice_index bytes.now next) machine.old }
     ensures within { IfOk result (λ end. (next < end) × (end ≤ length bytes.now)) }
-    ensures read { IfOk result (λ end. (at : ℕ) (before : Machine) → HasRead bytes.now at next before writer.old
-        → GoesOn before (slice_index bytes.now next) machine.old → HasRead bytes.now at end machine.new writer.new) }
+    ensures read { IfOk result (λ end. (at : ℕ) (before : Machine)
+        → HasRead bytes.now at next before writer.old
+        → GoesOn before (slice_index bytes.now next) machine.old
+        → HasRead bytes.now at end machine.new writer.new) }
 {
     put(alloc, machine, writer, bytes, next, bytes[next])?;
     let end = pass(machine, writer, bytes, next + 1)?;
@@ -154,8 +159,8 @@ fn put(
     Ok(())
 }
 
-/// Takes what most often follows at an offset, up to a character of a string that is escaped or isn't ASCII. It gives
-/// the offset after that.
+/// Takes what most often follows at an offset, up to a character of a string that is escaped or
+/// isn't ASCII. It gives the offset after that.
 #[inline(always)]
 fn follow(
     alloc: Global,
@@ -165,7 +170,8 @@ fn follow(
     at: usize,
 ) -> Result<usize, AllocError>
     requires { (from : ℕ) × HasRead bytes.now from at machine.old writer.old }
-    ensures { IfOk result (λ end. ReadsOn bytes.now at machine.old writer.old end machine.new writer.new) }
+    ensures { IfOk result (λ end. ReadsOn bytes.now at machine.old writer.old end machine.new
+        writer.new) }
 {
     let mut next = at;
     while next < bytes.len() {
@@ -178,8 +184,8 @@ fn follow(
     Ok(next)
 }
 
-/// Takes what most often stands at an offset, and gives the offset after that. What is most frequent has an arm of its
-/// own, in which it is known what its byte does.
+/// Takes what most often stands at an offset, and gives the offset after that. What is most
+/// frequent has an arm of its own, in which it is known what its byte does.
 #[inline(always)]
 fn take_next(
     alloc: Global,
@@ -190,7 +196,8 @@ fn take_next(
 ) -> Result<usize, AllocError>
     requires within { at < length bytes.now }
     requires read { (from : ℕ) × HasRead bytes.now from at machine.old writer.old }
-    ensures { IfOk result (λ end. ReadsOn bytes.now at machine.old writer.old end machine.new writer.new) }
+    ensures { IfOk result (λ end. ReadsOn bytes.now at machine.old writer.old end machine.new
+        writer.new) }
 {
     match bytes[at] {
         b'"' => {
@@ -224,8 +231,8 @@ fn take_next(
     }
 }
 
-/// Takes what is left of a string, up to a character that is escaped or isn't ASCII, its end, and the colon behind a
-/// name. It gives the offset after that.
+/// Takes what is left of a string, up to a character that is escaped or isn't ASCII, its end, and
+/// the colon behind a name. It gives the offset after that.
 #[inline(always)]
 fn finish_string(
     alloc: Global,
@@ -235,7 +242,8 @@ fn finish_string(
     at: usize,
 ) -> Result<usize, AllocError>
     requires { (from : ℕ) × HasRead bytes.now from at machine.old writer.old }
-    ensures { IfOk result (λ end. ReadsOn bytes.now at machine.old writer.old end machine.new writer.new) }
+    ensures { IfOk result (λ end. ReadsOn bytes.now at machine.old writer.old end machine.new
+        writer.new) }
 {
     let end = pass(machine, writer, bytes, at)?;
     if end == bytes.len() || !machine.end_string(bytes[end]) {
@@ -260,7 +268,8 @@ fn pass(
 ) -> Result<usize, AllocError>
     requires within { at ≤ length bytes.now }
     requires fits { Fits at writer.old }
-    ensures { IfOk result (λ end. ReadsOn bytes.now at machine.now writer.old end machine.now writer.new) }
+    ensures { IfOk result (λ end. ReadsOn bytes.now at machine.now writer.old end machine.now
+        writer.new) }
 {
     let end = machine.stay_end(writer.ground(), bytes, at);
     writer.put_all(bytes, at, end)?;

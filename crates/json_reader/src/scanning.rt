@@ -11,16 +11,18 @@ use board_base::Stop;
 use json_text::Raw;
 use std::alloc::Global;
 
-/// The one value that stands behind white space from `at` on, and the offset after it; or the first fault there, with
-/// its place among all bytes. RFC 8259; that at most 128 brackets may be open and the faults' places are this project's
-/// own.
+/// The one value that stands behind white space from `at` on, and the offset after it; or the first
+/// fault there, with its place among all bytes. RFC 8259; that at most 128 brackets may be open and
+/// the faults' places are this project's own.
 pub fn scan(alloc: Global, bytes: &[u8], at: usize) -> Result<(Raw, usize), Stop<JsonFault>>
     requires { at ≤ length bytes.now }
     ensures within { IfOk result (λ found. (at ≤ found.1) × (found.1 ≤ length bytes.now)) }
-    ensures found { IfOk result (λ found. Stands (drop at bytes.now) found.0 (drop found.1 bytes.now)) }
+    ensures found { IfOk result (λ found. Stands (drop at bytes.now) found.0
+        (drop found.1 bytes.now)) }
     ensures only { IfOk result (λ found. (text rest : List ℕ) → Stands (drop at bytes.now) text rest
         → (text ≡ found.0) × (rest ≡ drop found.1 bytes.now)) }
-    ensures fault { (fault : JsonFault) → result ≡ Err (Stop.Fault fault) → IsFirstFault bytes.now at fault }
+    ensures fault { (fault : JsonFault) → result ≡ Err (Stop.Fault fault)
+        → IsFirstFault bytes.now at fault }
 {
     match Reader::new(alloc, at).read(alloc, bytes)? {
         Taken::Through(reader) => Ok((reader.finish(bytes, bytes.len())?, bytes.len())),

@@ -21,8 +21,8 @@ pub(crate) enum Ground {
     Between,
 }
 
-/// Where a stretch from `at` on ends whose bytes all leave the mode as it is: plain characters of a string, or digits
-/// of a number or white space outside strings.
+/// Where a stretch from `at` on ends whose bytes all leave the mode as it is: plain characters of a
+/// string, or digits of a number or white space outside strings.
 #[inline(always)]
 pub(crate) fn stay_end(
     mode: Mode,
@@ -33,7 +33,8 @@ pub(crate) fn stay_end(
 ) -> usize
     requires { at ≤ length bytes.now }
     ensures within { (at ≤ result) × (result ≤ length bytes.now) }
-    ensures stays { AllByRecursion (λ b. moved mode top b ≡ To mode) (take (result - at) (drop at bytes.now)) }
+    ensures stays { AllByRecursion (λ b. moved mode top b ≡ To mode)
+        (take (result - at) (drop at bytes.now)) }
     ensures alike { AreAlike ground (take (result - at) (drop at bytes.now)) }
 {
     match (ground, mode) {

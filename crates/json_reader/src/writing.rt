@@ -1,7 +1,8 @@
 //! The compact text of a value, written while its bytes come.
 //!
-//! The writer looks at no more than a byte at a time, and takes what the machine has taken: white space outside strings
-//! is dropped, strings are quoted anew where they have escapes, and of equal names in an object the last value is kept.
+//! The writer looks at no more than a byte at a time, and takes what the machine has taken:
+//! white space outside strings is dropped, strings are quoted anew where they have escapes, and
+//! of equal names in an object the last value is kept.
 
 ghost use Rattle.std.specs.Prelude.{◌≡◌, ℕ, ◌+◌, ◌<◌, ◌≤◌, List, [], ◌++◌, true, false, length, slice_index, IfOk, OnOk};
 ghost use Rattle.json_text.specs.Walk.{outside, inside};
@@ -44,8 +45,8 @@ pub(crate) enum Deed {
     Push,
 }
 
-/// The writer of one value's compact text. What is to be written as it stands is copied from the bytes that are read,
-/// as late as can be.
+/// The writer of one value's compact text. What is to be written as it stands is copied from the
+/// bytes that are read, as late as can be.
 pub(crate) struct Writer {
     /// A string is open.
     quoted: bool,
@@ -111,10 +112,12 @@ impl Writer {
         requires within { next < length bytes.now }
         requires byte { slice_index bytes.now next ≡ byte }
         requires fits { Fits next self.old }
-        requires can { Can (deed_at (writing_at bytes.now next self.old) (slice_index bytes.now next))
+        requires can { Can (deed_at (writing_at bytes.now next self.old)
+            (slice_index bytes.now next))
             (writing_at bytes.now next self.old) (slice_index bytes.now next) }
         ensures { OnOk result
-            (HasPut (deed_at (writing_at bytes.now next self.old) (slice_index bytes.now next)) bytes.now next
+            (HasPut (deed_at (writing_at bytes.now next self.old) (slice_index bytes.now next))
+            bytes.now next
             self.old self.new) }
     {
         if self.quoted {
@@ -135,8 +138,8 @@ impl Writer {
         }
     }
 
-    /// Takes the stretch between two offsets: bytes of a string that are no `"` and no `\`, or bytes outside strings
-    /// that are appended as they are or are all white space.
+    /// Takes the stretch between two offsets: bytes of a string that are no `"` and no `\`, or
+    /// bytes outside strings that are appended as they are or are all white space.
     #[tactic(auto, using(crate::proofs::Copying::stretch_in, crate::proofs::Copying::stretch_on, crate::proofs::Copying::stretch_skipped))]
     pub(crate) fn put_all(&mut self, bytes: &[u8], at: usize, end: usize) -> Result<(), AllocError>
         requires within { (at ≤ end) × (end ≤ length bytes.now) }
@@ -163,7 +166,8 @@ impl Writer {
     pub(crate) fn into_text(self, bytes: &[u8], end: usize) -> Result<Vec<u8>, AllocError>
         requires within { end ≤ length bytes.now }
         requires fits { Fits end self }
-        requires whole { (text : List ℕ) × (writing_at bytes.now end self ≡ between (grown fresh text) []) }
+        requires whole { (text : List ℕ)
+            × (writing_at bytes.now end self ≡ between (grown fresh text) []) }
         ensures { IfOk result (λ written. (text : List ℕ) → writing_at bytes.now end self
             ≡ between (grown fresh text) [] → written.items ≡ text) }
     {
@@ -195,10 +199,12 @@ impl Writer {
         requires within { next < length bytes.now }
         requires byte { slice_index bytes.now next ≡ byte }
         requires fits { Fits next self.old }
-        requires can { Can (deed (inside self.old.escaped) self.old.here.level (slice_index bytes.now next))
+        requires can { Can (deed (inside self.old.escaped) self.old.here.level
+            (slice_index bytes.now next))
             (writing_at bytes.now next self.old) (slice_index bytes.now next) }
         ensures { OnOk result
-            (HasPut (deed (inside self.old.escaped) self.old.here.level (slice_index bytes.now next))
+            (HasPut (deed (inside self.old.escaped) self.old.here.level
+            (slice_index bytes.now next))
             bytes.now next self.old self.new) }
     {
         if self.escaped {
@@ -232,7 +238,8 @@ impl Writer {
         requires fits { Fits next self.old }
         requires can { Can (deed outside self.old.here.level (slice_index bytes.now next))
             (writing_at bytes.now next self.old) (slice_index bytes.now next) }
-        ensures { OnOk result (HasPut (deed outside self.old.here.level (slice_index bytes.now next))
+        ensures { OnOk result (HasPut
+            (deed outside self.old.here.level (slice_index bytes.now next))
             bytes.now next self.old self.new) }
     {
         match deed_between(self.here.level(), byte) {
@@ -277,7 +284,8 @@ impl Writer {
     fn begin(&mut self, next: usize)
         requires apart { self.old.quoted ≡ false }
         requires fits { Fits next self.old }
-        ensures { (bytes : List ℕ) → next < length bytes → HasPut Begin bytes next self.old self.new }
+        ensures { (bytes : List ℕ) → next < length bytes
+            → HasPut Begin bytes next self.old self.new }
     {
         self.quoted = true;
         self.escaped = false;
@@ -291,7 +299,8 @@ impl Writer {
         requires quoted { self.old.quoted ≡ true }
         requires within { next < length bytes.now }
         requires fits { Fits next self.old }
-        requires can { Can Finish (writing_at bytes.now next self.old) (slice_index bytes.now next) }
+        requires can { Can Finish (writing_at bytes.now next self.old)
+            (slice_index bytes.now next) }
         ensures { OnOk result (HasPut Finish bytes.now next self.old self.new) }
     {
         self.copy(bytes, self.start)?;
@@ -369,7 +378,8 @@ impl Writer {
     #[tactic(auto, using(crate::proofs::Copying::later_steps))]
     fn deepen(&mut self) -> Result<(), AllocError>
         requires { self.old.quoted ≡ false }
-        ensures { OnOk result ((bytes : List ℕ) (next : ℕ) → next < length bytes → Fits next self.old
+        ensures { OnOk result ((bytes : List ℕ) (next : ℕ) → next < length bytes
+            → Fits next self.old
             → HasPut Deepen bytes next self.old self.new) }
     {
         self.here.deepen()?;
@@ -418,7 +428,8 @@ fn unused(alloc: Global, spare: &mut Vec<Draft>) -> Result<Draft, AllocError>
     }
 }
 
-/// What is done with a byte outside strings, where so many arrays are open in the innermost object.
+/// What is done with a byte outside strings, where so many arrays are open in the innermost
+/// object.
 #[inline(always)]
 fn deed_between(level: u64, byte: u8) -> Deed
     ensures { result ≡ deed outside level byte }

@@ -11,7 +11,11 @@ pub extends_by : (a b x : List ℕ) → b ≡ a ++ x → Extends a b
 extends_by a b x is = record { more = x; is = is }
 
 pub extends_then : (a b c : List ℕ) → Extends a b → Extends b c → Extends a c
-extends_then a b c one two = record { more = one.more ++ two.more; is = two.is ∙ ap (λ t. t ++ two.more) one.is ∙ append_assoc a one.more two.more }
+extends_then a b c one two = record {
+  more = one.more ++ two.more;
+  is = two.is ∙ ap (λ t. t ++ two.more) one.is
+      ∙ append_assoc a one.more two.more;
+}
 
 -- what holds holds where a call failed
 pub on_err : {A E P : Type 0} (r : Result A E) → P → OnErr r P
@@ -21,5 +25,6 @@ on_err (Err e) p = p
 pub on_err_same : {A E : Type 0} (r : Result A E) (a b : List ℕ) → OnErr r (b ≡ a) → OnErr r (Extends a b)
 on_err_same r a b = on_err_weaker r (extends_same a b)
 
-pub on_err_then : {A E : Type 0} (r : Result A E) (a b c : List ℕ) → Extends a b → OnErr r (Extends b c) → OnErr r (Extends a c)
+pub on_err_then : {A E : Type 0} (r : Result A E) (a b c : List ℕ) → Extends a b → OnErr r (Extends b c)
+    → OnErr r (Extends a c)
 on_err_then r a b c one = on_err_weaker r (extends_then a b c one)

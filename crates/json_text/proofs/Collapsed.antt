@@ -28,26 +28,34 @@ abbrev pub IsAbsent : List ℕ → List Member → Type 0
 IsAbsent name members = AllByRecursion (λ other. bytes_eq name other ≡ false) (names_of members)
 
 -- where no item passes a test, each fails it
-pub none_passes : {X : Type 0} (test : X → Bool) (xs : List X) → list_any test xs ≡ false → AllByRecursion (λ x. test x ≡ false) xs
+pub none_passes : {X : Type 0} (test : X → Bool) (xs : List X) → list_any test xs ≡ false
+    → AllByRecursion (λ x. test x ≡ false) xs
 none_passes test [] h = tt
 none_passes test (x ∷ xs) h = grind (arith, none_passes test xs)
 
 -- what holds of each member holds of each that a filter keeps, and of each collapsed one
-filter-All : (P : Member → Type 0) (p : Member → Bool) (ms : List Member) → AllByRecursion P ms → AllByRecursion P (filter p ms)
+filter-All : (P : Member → Type 0) (p : Member → Bool) (ms : List Member) → AllByRecursion P ms
+    → AllByRecursion P (filter p ms)
 filter-All P p [] h = tt
 filter-All P p (m ∷ ms) h = grind (arith, filter-All P p ms)
 
-last_value-All : (P : List ℕ → Type 0) (name value : List ℕ) (ms : List Member) → P value → AllByRecursion P (map (λ m. m.1) ms) → P (last_value name value ms)
+last_value-All : (P : List ℕ → Type 0) (name value : List ℕ) (ms : List Member) → P value
+    → AllByRecursion P (map (λ m. m.1) ms) → P (last_value name value ms)
 last_value-All P name value [] here h = here
-last_value-All P name value (m ∷ ms) here h = grind (arith, last_value-All P name m.1 ms, last_value-All P name value ms)
+last_value-All P name value (m ∷ ms) here h =
+    grind (arith, last_value-All P name m.1 ms, last_value-All P name value ms)
 
-pub collapsed-names : (P : List ℕ → Type 0) (ms : List Member) → AllByRecursion (λ m. P m.0) ms → AllByRecursion (λ m. P m.0) (collapsed ms)
+pub collapsed-names : (P : List ℕ → Type 0) (ms : List Member) → AllByRecursion (λ m. P m.0) ms
+    → AllByRecursion (λ m. P m.0) (collapsed ms)
 collapsed-names P [] h = tt
-collapsed-names P (m ∷ ms) h = (h.0, filter-All (λ m. P m.0) (has_other_name m.0) (collapsed ms) (collapsed-names P ms h.1))
+collapsed-names P (m ∷ ms) h =
+    (h.0, filter-All (λ m. P m.0) (has_other_name m.0) (collapsed ms) (collapsed-names P ms h.1))
 
-pub collapsed-values : (P : List ℕ → Type 0) (ms : List Member) → AllByRecursion P (map (λ m. m.1) ms) → AllByRecursion (λ m. P m.1) (collapsed ms)
+pub collapsed-values : (P : List ℕ → Type 0) (ms : List Member) → AllByRecursion P (map (λ m. m.1) ms)
+    → AllByRecursion (λ m. P m.1) (collapsed ms)
 collapsed-values P [] h = tt
-collapsed-values P (m ∷ ms) h = grind (arith, last_value-All P m.0 m.1 ms, filter-All (λ n. P n.1) (has_other_name m.0), collapsed-values P ms)
+collapsed-values P (m ∷ ms) h =
+    grind (arith, last_value-All P m.0 m.1 ms, filter-All (λ n. P n.1) (has_other_name m.0), collapsed-values P ms)
 
 -- collapsed names are distinct
 filter-IsAbsent : (name : List ℕ) (ms : List Member) → IsAbsent name (filter (has_other_name name) ms)
@@ -57,7 +65,10 @@ filter-IsAbsent name (m ∷ ms) = grind (arith, filter-IsAbsent name ms)
 pub collapsed-distinct : (ms : List Member) → IsDistinct bytes_eq (names_of (collapsed ms))
 unfolding IsDistinct
 collapsed-distinct [] = tt
-collapsed-distinct (m ∷ ms) = (filter-IsAbsent m.0 (collapsed ms), IsDistinct-keys_filter bytes_eq (has_other_name m.0) (collapsed ms) (collapsed-distinct ms))
+collapsed-distinct (m ∷ ms) = (
+  filter-IsAbsent m.0 (collapsed ms),
+  IsDistinct-keys_filter bytes_eq (has_other_name m.0) (collapsed ms) (collapsed-distinct ms),
+)
 
 -- distinct names are left as they are
 filter-same : (name : List ℕ) (ms : List Member) → IsAbsent name ms → filter (has_other_name name) ms ≡ ms
@@ -82,19 +93,33 @@ insert_entry (m ∷ ms) name value = if bytes_eq name m.0 then (m.0, value) ∷ 
 last_value-push : (name value : List ℕ) (ms : List Member) (new : Member) →
     last_value name value (ms ++ new ∷ []) ≡ (if bytes_eq name new.0 then new.1 else last_value name value ms)
 last_value-push name value [] new = refl
-last_value-push name value (m ∷ ms) new = grind (arith, last_value-push name m.1 ms new, last_value-push name value ms new)
+last_value-push name value (m ∷ ms) new =
+    grind (arith, last_value-push name m.1 ms new, last_value-push name value ms new)
 
-filter-insert_entry-same : (name value : List ℕ) (ms : List Member) → filter (has_other_name name) (insert_entry ms name value) ≡ filter (has_other_name name) ms
+filter-insert_entry-same : (name value : List ℕ) (ms : List Member)
+    → filter (has_other_name name) (insert_entry ms name value) ≡ filter (has_other_name name) ms
 filter-insert_entry-same name value [] = rw (bytes_eq-same name) refl
 filter-insert_entry-same name value (m ∷ ms) = grind (arith, filter-insert_entry-same name value ms)
 
 filter-insert_entry-other : (name value other : List ℕ) (ms : List Member) → bytes_eq other name ≡ false →
-    filter (has_other_name other) (insert_entry ms name value) ≡ insert_entry (filter (has_other_name other) ms) name value
+    filter (has_other_name other) (insert_entry ms name value)
+    ≡ insert_entry (filter (has_other_name other) ms) name value
 filter-insert_entry-other name value other [] apart = rw apart refl
-filter-insert_entry-other name value other (m ∷ ms) apart = grind (arith, filter-insert_entry-other name value other ms, bytes_eq-true name m.0)
+filter-insert_entry-other name value other (m ∷ ms) apart =
+    grind (arith, filter-insert_entry-other name value other ms, bytes_eq-true name m.0)
 
 -- one more member at the end
-pub collapsed-push : (ms : List Member) (name value : List ℕ) → collapsed (ms ++ (name, value) ∷ []) ≡ insert_entry (collapsed ms) name value
+pub collapsed-push : (ms : List Member) (name value : List ℕ)
+    → collapsed (ms ++ (name, value) ∷ []) ≡ insert_entry (collapsed ms) name value
 collapsed-push [] name value = refl
 collapsed-push (m ∷ ms) name value =
-    grind (arith, last_value-push, collapsed-push ms name value, bytes_eq-true m.0 name, bytes_eq-same, bytes_eq-flip, filter-insert_entry-same, filter-insert_entry-other)
+    grind (
+      arith,
+      last_value-push,
+      collapsed-push ms name value,
+      bytes_eq-true m.0 name,
+      bytes_eq-same,
+      bytes_eq-flip,
+      filter-insert_entry-same,
+      filter-insert_entry-other,
+    )

@@ -15,18 +15,27 @@ use Rattle.json_text.specs.Compact.{piece_value, is_high, is_low, paired, lone, 
 pub paired-scalar : (u v : ℕ) → (is_high u && is_low v) ≡ true → scalar (paired u v) ≡ true
 paired-scalar u v h = grind (arith, nat_tests)
 
-pub four-hex : (a b c d : ℕ) → list_all is_hex (a ∷ b ∷ c ∷ d ∷ []) ≡ true → (is_hex a ≡ true) × (is_hex b ≡ true) × (is_hex c ≡ true) × (is_hex d ≡ true)
+pub four-hex : (a b c d : ℕ) → list_all is_hex (a ∷ b ∷ c ∷ d ∷ []) ≡ true → (is_hex a ≡ true) × (is_hex b ≡ true)
+    × (is_hex c ≡ true) × (is_hex d ≡ true)
 four-hex a b c d h = grind arith
 
 piece_value-lt : (p : Piece) → IsPiece p → piece_value p < 0x11_0000
 piece_value-lt p h =
-    let small : (digit : ℕ) → is_hex digit ≡ true → hex_value digit < 16 = λ digit is. grind (arith, nat_tests) in grind (arith, nat_tests, four-hex, small)
+    let small : (digit : ℕ) → is_hex digit ≡ true → hex_value digit < 16 =
+    λ digit is. grind (arith, nat_tests) in grind (arith, nat_tests, four-hex, small)
 
 characters-scalars : (ps : List Piece) → AllByRecursion IsPiece ps → scalars (characters (map piece_value ps)) ≡ true
 characters-scalars [] h = refl
 characters-scalars (p ∷ []) h = grind (arith, nat_tests, piece_value-lt p)
 characters-scalars (p ∷ q ∷ ps) h =
-    grind (arith, nat_tests, piece_value-lt p, characters-scalars ps, characters-scalars (q ∷ ps), paired-scalar (piece_value p) (piece_value q))
+    grind (
+      arith,
+      nat_tests,
+      piece_value-lt p,
+      characters-scalars ps,
+      characters-scalars (q ∷ ps),
+      paired-scalar (piece_value p) (piece_value q),
+    )
 
 -- what pieces stand for is a text
 pub content-utf8 : (ps : List Piece) → AllByRecursion IsPiece ps → IsUtf8 (content ps)
@@ -60,16 +69,25 @@ plain-bare c a b = grind (arith, nat_tests)
 
 -- the bytes before the first that needs an escape are copied
 pub plain_front : (xs : List ℕ) →
-    flat_map quoted_byte xs ≡ take (position_or_len needs_escape xs) xs ++ flat_map quoted_byte (drop (position_or_len needs_escape xs) xs)
+    flat_map quoted_byte xs ≡ take (position_or_len needs_escape xs) xs
+    ++ flat_map quoted_byte (drop (position_or_len needs_escape xs) xs)
 plain_front [] = refl
 plain_front (x ∷ xs) = rw one-add (grind (arith, nat_tests, plain_front xs))
 
 pub quoted-None : (xs : List ℕ) → None ≡ position needs_escape xs → flat_map quoted_byte xs ≡ xs
-quoted-None xs h = grind (arith, nat_tests, plain_front xs, take_all (position_or_len needs_escape xs) xs, drop_of_length-le xs, append-nil xs)
+quoted-None xs h = grind (
+  arith,
+  nat_tests,
+  plain_front xs,
+  take_all (position_or_len needs_escape xs) xs,
+  drop_of_length-le xs,
+  append-nil xs,
+)
 
 -- the bytes before the first that needs an escape, that byte and the others
 pub quoted-Some : (xs : List ℕ) (k : ℕ) → Some k ≡ position needs_escape xs →
-    (k < length xs) × (flat_map quoted_byte xs ≡ take k xs ++ (quoted_byte (get_or xs k 0) ++ flat_map quoted_byte (drop (k + 1) xs)))
+    (k < length xs) × (flat_map quoted_byte xs ≡ take k xs
+    ++ (quoted_byte (get_or xs k 0) ++ flat_map quoted_byte (drop (k + 1) xs)))
 quoted-Some xs k h =
     let first : (k < length xs) × (k ≡ position_or_len needs_escape xs) = grind (arith, nat_tests) in
     (first.0, plain_front xs ∙ rw (← first.1) (rw (drop-cons xs k 0 first.0, add-one) refl))
@@ -77,16 +95,21 @@ quoted-Some xs k h =
 -- a character that stands in a string as it is stands so in a quote too
 pub quoted-bare : (c : ℕ) → IsPiece (bare c) → flat_map quoted_byte (encode_utf8 c) ≡ encode_utf8 c
 unfolding encode_utf8
-quoted-bare c h = let none : None ≡ position needs_escape (encode_utf8 c) = grind (arith, nat_tests) in quoted-None (encode_utf8 c) none
+quoted-bare c h = let none : None ≡ position needs_escape (encode_utf8 c) = grind (arith, nat_tests) in
+    quoted-None (encode_utf8 c) none
 
 -- how a character stands in a quote, and a list of characters
-scalar-quoted : (c : ℕ) → IsScalar c → IsPiece (piece_of c) × (piece_value (piece_of c) ≡ c) × (piece_spelling (piece_of c) ≡ flat_map quoted_byte (encode_utf8 c))
-scalar-quoted c s = (grind (arith, nat_tests), grind (arith, nat_tests), grind (arith, nat_tests, encode_ascii c, quoted-bare c))
+scalar-quoted : (c : ℕ) → IsScalar c → IsPiece (piece_of c) × (piece_value (piece_of c) ≡ c)
+    × (piece_spelling (piece_of c) ≡ flat_map quoted_byte (encode_utf8 c))
+scalar-quoted c s =
+    (grind (arith, nat_tests), grind (arith, nat_tests), grind (arith, nat_tests, encode_ascii c, quoted-bare c))
 
-scalars-quoted : (cs : List ℕ) → scalars cs ≡ true → AllByRecursion IsPiece (map piece_of cs) × (map piece_value (map piece_of cs) ≡ cs)
+scalars-quoted : (cs : List ℕ) → scalars cs ≡ true → AllByRecursion IsPiece (map piece_of cs)
+    × (map piece_value (map piece_of cs) ≡ cs)
     × (flat_map piece_spelling (map piece_of cs) ≡ flat_map quoted_byte (encode_utf8_all cs))
 scalars-quoted [] h = (tt, refl, refl)
-scalars-quoted (c ∷ cs) h = grind (arith, scalar-quoted c, scalars-quoted cs, flat_map-append quoted_byte (encode_utf8 c) (encode_utf8_all cs))
+scalars-quoted (c ∷ cs) h =
+    grind (arith, scalar-quoted c, scalars-quoted cs, flat_map-append quoted_byte (encode_utf8 c) (encode_utf8_all cs))
 
 -- pieces that spell a text's quote and stand for the text
 pub record Quotes (text : List ℕ) : Type 0 where
@@ -114,14 +137,16 @@ unfolding encode_utf8
 first_code c b r t low e = grind (arith, nat_tests)
 
 -- a good piece is read in one way alone
-piece-once : (p q : Piece) (r t : List ℕ) → IsPiece p → IsPiece q → piece_spelling p ++ r ≡ piece_spelling q ++ t → (p ≡ q) × (r ≡ t)
+piece-once : (p q : Piece) (r t : List ℕ) → IsPiece p → IsPiece q → piece_spelling p ++ r ≡ piece_spelling q ++ t
+    → (p ≡ q) × (r ≡ t)
 piece-once (bare c) (bare d) r t good other e = let same = encode_same c d r t e in (cc, same.1)
 piece-once (bare c) q r t good other e = grind (arith, first_code c 92 r)
 piece-once p (bare c) r t good other e = grind (arith, first_code c 92 t)
 piece-once p q r t good other e = grind (arith, nat_tests)
 
 -- a string is read in one way alone
-pub pieces-once : (ps qs : List Piece) (r t : List ℕ) → AllByRecursion IsPiece ps → AllByRecursion IsPiece qs → flat_map piece_spelling ps ++ 34 ∷ r ≡ flat_map piece_spelling qs ++ 34 ∷ t → (ps ≡ qs) × (r ≡ t)
+pub pieces-once : (ps qs : List Piece) (r t : List ℕ) → AllByRecursion IsPiece ps → AllByRecursion IsPiece qs
+    → flat_map piece_spelling ps ++ 34 ∷ r ≡ flat_map piece_spelling qs ++ 34 ∷ t → (ps ≡ qs) × (r ≡ t)
 pieces-once [] [] r t good other e = (refl, cc)
 pieces-once (p ∷ ps) (q ∷ qs) r t good other e =
     let first = piece-once p q _ _ good.0 other.0 (simp append_assoc at e) in

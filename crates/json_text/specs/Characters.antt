@@ -65,13 +65,14 @@ is_plain b = not (b == 34) && not (b == 92)
 abbrev pub is_bare : ℕ → Bool
 is_bare b = nat_le 0x20 b && (nat_lt b 0x80 && (not (b == 34) && not (b == 92)))
 
--- a byte that can't stand in a string as it is: a control character, `"` or `\`. RFC 8259, section 7.
+-- a byte that can't stand in a string as it is: a control character, `"` or `\`. RFC 8259, section
+-- 7.
 abbrev pub needs_escape : ℕ → Bool
 needs_escape b = nat_lt b 32 || (b == 34 || b == 92)
 
--- how a byte of a text stands in its quote: `"` and `\` behind a backslash, five controls by a letter, the other
--- controls by four digits of base 16 in lower case, and all else as it is. This project's own choice among RFC 8259,
--- section 7.
+-- how a byte of a text stands in its quote: `"` and `\` behind a backslash, five controls by a
+-- letter, the other controls by four digits of base 16 in lower case, and all else as it is. This
+-- project's own choice among RFC 8259, section 7.
 abbrev pub quoted_byte : ℕ → List ℕ
 quoted_byte b =
     if b == 34 then 92 ∷ 34 ∷ []

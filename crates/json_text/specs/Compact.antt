@@ -1,5 +1,5 @@
--- The compact text of a tree. RFC 8259, sections 4, 5 and 7; that literals are kept, which of two equal names counts,
--- and what a lone surrogate stands for is this project's own.
+-- The compact text of a tree. RFC 8259, sections 4, 5 and 7; that literals are kept, which of two
+-- equal names counts, and what a lone surrogate stands for is this project's own.
 use Rattle.std.specs.Prelude.{ℕ, ◌+◌, ◌*◌, ◌-◌, List, [], ◌∷◌, ◌++◌, Bool, not, ◌&&◌, ◌||◌, nat_le, nat_lt, if◌then◌else◌, map, filter, encode_utf8_all}
 use Rattle.std.specs.List.{join_with_byte}
 use Rattle.std.specs.Str.{bytes_eq}
@@ -10,7 +10,8 @@ use Rattle.json_text.specs.Tree.{Piece, bare, letter, unit, letter_meaning, Cont
 abbrev pub piece_value : Piece → ℕ
 piece_value (bare c) = c
 piece_value (letter b) = letter_meaning b
-piece_value (unit a b c d) = ((hex_value a * 16 + hex_value b) * 16 + hex_value c) * 16 + hex_value d
+piece_value (unit a b c d) =
+    ((hex_value a * 16 + hex_value b) * 16 + hex_value c) * 16 + hex_value d
 
 abbrev pub is_high : ℕ → Bool
 is_high u = nat_le 0xD800 u && nat_lt u 0xDC00
@@ -30,7 +31,8 @@ lone u = if is_high u || is_low u then 0xFFFD else u
 abbrev pub characters : List ℕ → List ℕ
 characters [] = []
 characters (u ∷ []) = lone u ∷ []
-characters (u ∷ v ∷ us) = if is_high u && is_low v then paired u v ∷ characters us else lone u ∷ characters (v ∷ us)
+characters (u ∷ v ∷ us) =
+    if is_high u && is_low v then paired u v ∷ characters us else lone u ∷ characters (v ∷ us)
 
 -- the text that the pieces of a string stand for
 unfoldable pub content : List Piece → List ℕ
@@ -51,13 +53,15 @@ has_other_name name member = not (bytes_eq name member.0)
 abbrev pub last_value : List ℕ → List ℕ → List Member → List ℕ
 last_value name value [] = value
 last_value name value (member ∷ members) =
-    if bytes_eq name member.0 then last_value name member.1 members else last_value name value members
+    if bytes_eq name member.0 then last_value name member.1 members else last_value name value
+    members
 
 -- Where a name occurs more than once, the last value counts and stands at the first one's place.
 abbrev pub collapsed : List Member → List Member
 collapsed [] = []
 collapsed (member ∷ members) =
-    (member.0, last_value member.0 member.1 members) ∷ filter (has_other_name member.0) (collapsed members)
+    (member.0, last_value member.0 member.1 members)
+    ∷ filter (has_other_name member.0) (collapsed members)
 
 abbrev pub member_text : Member → List ℕ
 member_text member = quote member.0 ++ 58 ∷ member.1

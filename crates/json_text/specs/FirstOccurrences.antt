@@ -8,7 +8,8 @@ is_other same item other = not (same item other)
 -- each item once, where it stands first
 abbrev pub first_occurrences : {T : Type 0} → (T → T → Bool) → List T → List T
 first_occurrences same [] = []
-first_occurrences same (item ∷ items) = item ∷ filter (is_other same item) (first_occurrences same items)
+first_occurrences same (item ∷ items) =
+    item ∷ filter (is_other same item) (first_occurrences same items)
 
 -- each text once, where it stands first
 abbrev pub first_texts : List (List ℕ) → List (List ℕ)

@@ -8,7 +8,8 @@ use Rattle.json_text.specs.Value.{IsCompact}
 abbrev pub names_of : List Member → List (List ℕ)
 names_of ms = map (λ (m : Member). m.0) ms
 
--- Each name is a text, each value is a compact text that nests at most so deep, and no name comes twice.
+-- Each name is a text, each value is a compact text that nests at most so deep, and no name comes
+-- twice.
 pub record AreMembers (limit : ℕ) (ms : List Member) : Type 0 where
   pub named : AllByRecursion (λ (m : Member). IsUtf8 m.0) ms
   pub valued : AllByRecursion (λ (m : Member). IsCompact limit m.1) ms

@@ -15,8 +15,8 @@ between bytes start end = take (end - start) (drop start bytes)
 abbrev pub bytes_at : Span → List ℕ
 bytes_at s = between s.source s.start s.end
 
--- What stands between two offsets is a text with its quote around it: the byte before it, the text and the byte after
--- it are the quote.
+-- What stands between two offsets is a text with its quote around it: the byte before it, the text
+-- and the byte after it are the quote.
 pub record StandsQuoted (bytes : List ℕ) (start end : ℕ) : Type 0 where
   pub begun : 0 < start
   pub rises : start ≤ end

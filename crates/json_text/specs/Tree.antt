@@ -4,8 +4,8 @@ use Rattle.std.specs.Char.{IsScalar}
 use Rattle.std.specs.List.{list_all, AllByRecursion}
 use Rattle.json_text.specs.Characters.{is_blank, is_digit, is_hex}
 
--- A number has a sign, a whole part without leading zeros, a fraction and an exponent; all but the whole part may be
--- missing. RFC 8259, section 6.
+-- A number has a sign, a whole part without leading zeros, a fraction and an exponent; all but the
+-- whole part may be missing. RFC 8259, section 6.
 abbrev pub IsSign : List ℕ → Type 0
 IsSign s = (s ≡ []) ⊎ (s ≡ 45 ∷ [])
 
@@ -21,7 +21,8 @@ IsFraction s = (s ≡ []) ⊎ ((digits : List ℕ) × (s ≡ 46 ∷ digits) × A
 
 abbrev pub IsExponent : List ℕ → Type 0
 IsExponent s = (s ≡ []) ⊎ ((letter : ℕ) × (sign digits : List ℕ) × (s ≡ letter ∷ (sign ++ digits))
-    × ((letter ≡ 101) ⊎ (letter ≡ 69)) × ((sign ≡ []) ⊎ ((sign ≡ 43 ∷ []) ⊎ (sign ≡ 45 ∷ []))) × AreDigits digits)
+    × ((letter ≡ 101) ⊎ (letter ≡ 69)) × ((sign ≡ []) ⊎ ((sign ≡ 43 ∷ []) ⊎ (sign ≡ 45 ∷ [])))
+    × AreDigits digits)
 
 pub record IsNumber (s : List ℕ) : Type 0 where
   pub sign : List ℕ
@@ -47,8 +48,8 @@ false_word = 102 ∷ 97 ∷ 108 ∷ 115 ∷ 101 ∷ []
 abbrev pub IsWord : List ℕ → Type 0
 IsWord s = (s ≡ null_word) ⊎ ((s ≡ true_word) ⊎ (s ≡ false_word))
 
--- A piece of a string: a character as it stands, `\` and a letter, or `\u` and four digits of base 16. RFC 8259,
--- section 7.
+-- A piece of a string: a character as it stands, `\` and a letter, or `\u` and four digits of base
+-- 16. RFC 8259, section 7.
 pub data Piece : Type 0 where
   bare : ℕ → Piece
   letter : ℕ → Piece
@@ -93,14 +94,16 @@ abbrev pub closing : Container → ℕ
 closing array = 93
 closing object = 125
 
--- What stands before a value in a container: white space, or a name between white space, a colon and white space.
+-- What stands before a value in a container: white space, or a name between white space, a colon
+-- and white space.
 pub data Label : Type 0 where
   unnamed : List ℕ → Label
   named : List ℕ → List Piece → List ℕ → List ℕ → Label
 
 abbrev pub label_spelling : Label → List ℕ
 label_spelling (unnamed before) = before
-label_spelling (named before name between after) = before ++ (string_spelling name ++ (between ++ 58 ∷ after))
+label_spelling (named before name between after) =
+    before ++ (string_spelling name ++ (between ++ 58 ∷ after))
 
 -- The values of an array have no names, those of an object have.
 abbrev pub IsLabel : Container → Label → Type 0
@@ -108,9 +111,11 @@ IsLabel array (unnamed before) = is_blank before ≡ true
 IsLabel array (named before name between after) = ⊥
 IsLabel object (unnamed before) = ⊥
 IsLabel object (named before name between after) =
-    (is_blank before ≡ true) × AllByRecursion IsPiece name × (is_blank between ≡ true) × (is_blank after ≡ true)
+    (is_blank before ≡ true) × AllByRecursion IsPiece name × (is_blank between ≡ true)
+    × (is_blank after ≡ true)
 
--- A tree is a number or a word, a string, an empty container, or one with values; white space may follow each value.
+-- A tree is a number or a word, a string, an empty container, or one with values; white space may
+-- follow each value.
 mutual
   pub data Tree : Type 0 where
     scalar : List ℕ → Tree
@@ -128,7 +133,8 @@ abbrev mutual
   spelling (scalar literal) = literal
   spelling (text pieces) = string_spelling pieces
   spelling (empty container blank) = opening container ∷ (blank ++ closing container ∷ [])
-  spelling (filled container values) = opening container ∷ (values_spelling values ++ closing container ∷ [])
+  spelling (filled container values) =
+      opening container ∷ (values_spelling values ++ closing container ∷ [])
 
   pub values_spelling : Values → List ℕ
   values_spelling (last label value blank) = label_spelling label ++ (spelling value ++ blank)
@@ -144,7 +150,8 @@ abbrev mutual
   IsGood (filled container values) = AreGood container values
 
   pub AreGood : Container → Values → Type 0
-  AreGood container (last label value blank) = IsLabel container label × IsGood value × (is_blank blank ≡ true)
+  AreGood container (last label value blank) =
+      IsLabel container label × IsGood value × (is_blank blank ≡ true)
   AreGood container (next label value blank values) =
       IsLabel container label × IsGood value × (is_blank blank ≡ true) × AreGood container values
 

@@ -1,11 +1,13 @@
--- JSON values, and the first fault of a text. RFC 8259; the limits and the places of faults are this project's own.
+-- JSON values, and the first fault of a text. RFC 8259; the limits and the places of faults are
+-- this project's own.
 use Rattle.std.specs.Prelude.{◌≡◌, ◌≢◌, ◌⊎◌, ℕ, suc, ◌<◌, ◌≤◌, List, [], ◌∷◌, ◌++◌, length, take, drop, replicate, Some, slice_get, Bool, true, false, ◌||◌, ◌==◌, encode_utf8}
 use Rattle.std.specs.Char.{IsScalar}
 use Rattle.json_text.specs.Characters.{is_blank, is_digit}
 use Rattle.json_text.specs.Tree.{Tree, spelling, IsGood, IsNumber, depth}
 use Rattle.json_text.specs.Compact.{compact}
 
--- These bytes are one value with this compact text, and at most so many brackets are open in it at once.
+-- These bytes are one value with this compact text, and at most so many brackets are open in it at
+-- once.
 pub record Value (limit : ℕ) (bytes text : List ℕ) : Type 0 where
   pub tree : Tree
   pub good : IsGood tree
@@ -26,7 +28,8 @@ abbrev pub Follows : List ℕ → List ℕ → Type 0
 Follows value [] = Unit {0}
 Follows value (b ∷ bytes) = IsNumber value → extends_number b ≡ false
 
--- A text begins with white space and a value of at most 128 open brackets with this compact text; the rest follows it.
+-- A text begins with white space and a value of at most 128 open brackets with this compact text;
+-- the rest follows it.
 pub record Stands (bytes text rest : List ℕ) : Type 0 where
   pub blank : List ℕ
   pub value : List ℕ
@@ -51,8 +54,8 @@ pub record IsLongest (bytes : List ℕ) (n : ℕ) : Type 0 where
   pub begins : Begins 128 (take n bytes)
   pub stops : n < length bytes → Begins 128 (take (suc n) bytes) → ⊥
 
--- The end of these bytes lies in a string: after zeros that an escape may still want a `\` may come, which stands in
--- strings alone.
+-- The end of these bytes lies in a string: after zeros that an escape may still want a `\` may
+-- come, which stands in strings alone.
 abbrev pub IsInString : List ℕ → Type 0
 IsInString bytes = (zeros : ℕ) × Begins 128 (bytes ++ (replicate zeros 48 ++ 92 ∷ []))
 

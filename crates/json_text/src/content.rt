@@ -15,12 +15,13 @@ use crate::runs::run_end;
 use crate::text::{Raw, Text};
 use std::alloc::{AllocError, Global};
 
-/// The text of the string at an offset of a value, and the offset after the string. Where no character is escaped, no
-/// byte is copied.
+/// The text of the string at an offset of a value, and the offset after the string. Where no
+/// character is escaped, no byte is copied.
 #[inline(always)]
 pub fn text_at(alloc: Global, value: &Raw, at: usize) -> Result<(Text, usize), AllocError>
     requires { (text rest : List ℕ) × Quoted (drop at value.now) text rest }
-    ensures found { IfOk result (λ found. (text rest : List ℕ) → Quoted (drop at value.now) text rest
+    ensures found { IfOk result (λ found. (text rest : List ℕ)
+        → Quoted (drop at value.now) text rest
         → (found.0 ≡ text) × (drop found.1 value.now ≡ rest)) }
     ensures within { IfOk result (λ found. (at < found.1) × (found.1 ≤ length value.now)) }
 {
@@ -35,7 +36,8 @@ pub fn text_at(alloc: Global, value: &Raw, at: usize) -> Result<(Text, usize), A
 /// The text of the string at an offset, and the offset after the string.
 pub fn content_of(alloc: Global, bytes: &[u8], at: usize) -> Result<(Text, usize), AllocError>
     requires { (text rest : List ℕ) × Quoted (drop at bytes.now) text rest }
-    ensures found { IfOk result (λ found. (text rest : List ℕ) → Quoted (drop at bytes.now) text rest
+    ensures found { IfOk result (λ found. (text rest : List ℕ)
+        → Quoted (drop at bytes.now) text rest
         → (found.0 ≡ text) × (drop found.1 bytes.now ≡ rest)) }
     ensures within { IfOk result (λ found. (at < found.1) × (found.1 ≤ length bytes.now)) }
 {
@@ -51,7 +53,8 @@ pub fn content_of(alloc: Global, bytes: &[u8], at: usize) -> Result<(Text, usize
     }
 }
 
-/// Appends the character of the escape at the front, or of a pair of surrogates, and tells how many bytes that takes.
+/// Appends the character of the escape at the front, or of a pair of surrogates, and tells how many
+/// bytes that takes.
 #[tactic(auto, using(crate::proofs::Contents::letter_takes))]
 fn push_escape(out: &mut Vec<u8>, rest: &[u8]) -> Result<usize, AllocError>
     requires unread { (text after : List ℕ) × Unread rest.now text after }
@@ -81,10 +84,13 @@ fn push_escape(out: &mut Vec<u8>, rest: &[u8]) -> Result<usize, AllocError>
 
 /// The low surrogate that follows, where the first unit is a high one.
 fn second_unit(first: u32, tail: &[u8]) -> Option<u32>
-    requires { slice_index tail.now 0 ≡ 92 → slice_index tail.now 1 ≡ 117 → IsPiece (unit_at tail.now) }
-    ensures found { IfSome result (λ second. (Compact.is_high first ≡ true) × (Compact.is_low second ≡ true)
+    requires { slice_index tail.now 0 ≡ 92 → slice_index tail.now 1 ≡ 117
+        → IsPiece (unit_at tail.now) }
+    ensures found { IfSome result (λ second. (Compact.is_high first ≡ true)
+        × (Compact.is_low second ≡ true)
         × StartsWithUnit tail.now second) }
-    ensures none { IfNone result ((second : ℕ) → Compact.is_high first ≡ true → Compact.is_low second ≡ true
+    ensures none { IfNone result ((second : ℕ) → Compact.is_high first ≡ true
+        → Compact.is_low second ≡ true
         → StartsWithUnit tail.now second → ⊥) }
 {
     if !is_high(first) {
@@ -134,7 +140,8 @@ fn is_low(unit: u32) -> bool
     0xdc00 <= unit && unit < 0xe000
 }
 
-/// The character that a letter behind a `\` stands for, and 0 for a letter that may not stand there.
+/// The character that a letter behind a `\` stands for, and 0 for a letter that may not stand
+/// there.
 fn letter_meaning(letter: u8) -> u8
     ensures value { result ≡ Tree.letter_meaning letter }
     ensures ascii { result < 128 }

@@ -54,7 +54,8 @@ impl Ord for Text {
 impl Hash for Text {
     ghost hash_input = { λ text. fed.slice fed.u8 text };
 
-    ghost respects_eq = { λ a b same. ap (λ text. fed.slice fed.u8 text) ((bytes_eq-Decides a b).0 same) };
+    ghost respects_eq = { λ a b same. ap (λ text. fed.slice fed.u8 text)
+        ((bytes_eq-Decides a b).0 same) };
 
     fn hash<H: Hasher>(&self, state: &mut H) {
         self.as_bytes().hash(state);

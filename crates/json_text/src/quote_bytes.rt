@@ -6,8 +6,8 @@ ghost use Rattle.json_text.specs.Characters.{quote, quoted_byte};
 use crate::quotes::hex_digit;
 use std::marker::Model;
 
-/// What is left of the quote of a text: first a byte or an escape, which stands at the end of `lead`, then the text's
-/// further bytes, then, while it is open, the closing mark.
+/// What is left of the quote of a text: first a byte or an escape, which stands at the end of
+/// `lead`, then the text's further bytes, then, while it is open, the closing mark.
 #[derive(Drop)]
 pub struct QuoteBytes<'a> {
     lead: [u8; 6],
@@ -22,7 +22,8 @@ impl<'a> Model for QuoteBytes<'a> {
 
     ghost Value = { List ℕ };
 
-    ghost view = { λ q. drop q.at q.lead ++ (if q.is_open then flat_map quoted_byte q.rest.now ++ 34 ∷ [] else []) };
+    ghost view = { λ q. drop q.at q.lead ++ (if q.is_open then flat_map quoted_byte q.rest.now ++ 34
+        ∷ [] else []) };
 
     ghost invariant = { λ q. q.at ≤ 6 };
 }
@@ -55,7 +56,8 @@ impl<'a> QuoteBytes<'a> {
 
     /// Takes the next byte.
     pub fn next(&mut self) -> Option<u8>
-        ensures { MatchOption result ((self.old ≡ []) × (self.new ≡ [])) (λ byte. self.old ≡ byte ∷ self.new) }
+        ensures { MatchOption result ((self.old ≡ []) × (self.new ≡ [])) (λ byte. self.old ≡ byte
+            ∷ self.new) }
     {
         if self.at < 6 {
             let byte = self.lead[self.at];

@@ -35,7 +35,8 @@ pub fn push_quoted(out: &mut Vec<u8>, characters: &str) -> Result<(), AllocError
     push_quote_of(out, characters.as_bytes())
 }
 
-/// What an append to a vector of this length came to. Where it failed, the vector is cut back to that length.
+/// What an append to a vector of this length came to. Where it failed, the vector is cut back to
+/// that length.
 pub fn whole_or_cut(
     out: &mut Vec<u8>,
     length: usize,
@@ -74,7 +75,8 @@ fn push_quote_parts(out: &mut Vec<u8>, text: &[u8]) -> Result<(), AllocError>
     Ok(())
 }
 
-/// Appends what stands between the quotation marks. Bytes that stand for themselves are copied together.
+/// Appends what stands between the quotation marks. Bytes that stand for themselves are copied
+/// together.
 #[tactic(auto, using(crate::proofs::Appending::extends_same, crate::proofs::Appending::extends_by, crate::proofs::Appending::extends_then, crate::proofs::Strings::string_steps))]
 fn push_escaped(out: &mut Vec<u8>, text: &[u8]) -> Result<(), AllocError>
     ensures ok { OnOk result (out.new.items ≡ out.old.items ++ flat_map quoted_byte text.now) }

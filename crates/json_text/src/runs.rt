@@ -110,7 +110,8 @@ pub fn run_end(bytes: &[u8], at: usize) -> usize
     end_of::<Plain>(bytes, at)
 }
 
-/// Where the first byte stands from an offset on that isn't an ASCII character which stands in a string as it is.
+/// Where the first byte stands from an offset on that isn't an ASCII character which stands in a
+/// string as it is.
 #[inline(always)]
 pub fn bare_end(bytes: &[u8], at: usize) -> usize
     requires { at ≤ length bytes.now }

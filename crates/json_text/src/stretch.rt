@@ -8,8 +8,8 @@ use std::alloc::AllocError;
 use std::marker::Model;
 use std::rc::Rc;
 
-/// A list of bytes that never changes, so that its copies and its parts share one place in memory. It is as small as
-/// can be, since an element has some forty of them.
+/// A list of bytes that never changes, so that its copies and its parts share one place in memory.
+/// It is as small as can be, since an element has some forty of them.
 pub(crate) struct Stretch {
     held: Held,
 }
@@ -113,8 +113,8 @@ impl Stretch {
         }
     }
 
-    /// The same bytes. It takes no memory; it fails only where so many others have a part of them that they can't be
-    /// counted.
+    /// The same bytes. It takes no memory; it fails only where so many others have a part of them
+    /// that they can't be counted.
     pub(crate) fn try_clone(&self) -> Result<Stretch, AllocError>
         ensures { IfOk result (λ copy. copy ≡ self.now) }
     {
@@ -139,8 +139,8 @@ impl Stretch {
         Ok(Stretch { held })
     }
 
-    /// The bytes between two offsets, with their quote around them. It takes no memory, and fails only as `try_clone`
-    /// does.
+    /// The bytes between two offsets, with their quote around them. It takes no memory, and fails
+    /// only as `try_clone` does.
     #[tactic(auto, using(crate::proofs::Spans::between_between, crate::proofs::Spans::quoted_between))]
     pub(crate) fn cut_quoted(&self, start: usize, end: usize) -> Result<Stretch, AllocError>
         requires { StandsQuoted self.now start end }

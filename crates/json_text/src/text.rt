@@ -54,7 +54,8 @@ pub struct Member {
 impl Text {
     /// These bytes, or `None` exactly where they aren't UTF-8.
     pub fn read(alloc: Global, bytes: &[u8]) -> Result<Option<Text>, AllocError>
-        ensures { IfOk result (λ found. MatchOption found (¬ IsUtf8 bytes.now) (λ text. text ≡ bytes.now)) }
+        ensures { IfOk result (λ found. MatchOption found (¬ IsUtf8 bytes.now) (λ text. text
+            ≡ bytes.now)) }
     {
         if std::str::from_utf8(bytes).is_err() {
             return Ok(None);
@@ -161,7 +162,8 @@ impl Raw {
         })
     }
 
-    /// The text that stands between two offsets of the compact text, with its quote around it. No byte is copied.
+    /// The text that stands between two offsets of the compact text, with its quote around it. No
+    /// byte is copied.
     #[inline(always)]
     pub(crate) fn cut_text(&self, start: usize, end: usize) -> Result<Text, AllocError>
         requires quoted { StandsQuoted self.now start end }

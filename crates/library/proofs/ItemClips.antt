@@ -27,20 +27,24 @@ use Rattle.library.proofs.Whole.{elements-compact, elements-placed, item-sound, 
 abbrev ids : List Placed → List (List ℕ)
 ids placed = map (λ (e : ElementValue). e.id) (elements_in placed)
 
-apart-live : (id : List ℕ) (placed : List Placed) → AllByRecursion (λ y. bytes_eq id y ≡ false) (ids placed) → AllByRecursion (λ y. bytes_eq id y ≡ false) (ids (live_in placed))
+apart-live : (id : List ℕ) (placed : List Placed) → AllByRecursion (λ y. bytes_eq id y ≡ false) (ids placed)
+    → AllByRecursion (λ y. bytes_eq id y ≡ false) (ids (live_in placed))
 apart-live id [] apart = tt
 apart-live id (p ∷ placed) apart = by (not p.element.deleted) (apart-live id placed apart.1)
   where
-    by : (b : Bool) → AllByRecursion (λ y. bytes_eq id y ≡ false) (ids (live_in placed)) → AllByRecursion (λ y. bytes_eq id y ≡ false) (ids (cond b (p ∷ live_in placed) (live_in placed)))
+    by : (b : Bool) → AllByRecursion (λ y. bytes_eq id y ≡ false) (ids (live_in placed))
+        → AllByRecursion (λ y. bytes_eq id y ≡ false) (ids (cond b (p ∷ live_in placed) (live_in placed)))
     by true later = (apart.0, later)
     by false later = later
 
-distinct-live : (placed : List Placed) → HaveDistinctIds (elements_in placed) → HaveDistinctIds (elements_in (live_in placed))
+distinct-live : (placed : List Placed) → HaveDistinctIds (elements_in placed)
+    → HaveDistinctIds (elements_in (live_in placed))
 unfolding IsDistinct
 distinct-live [] d = tt
 distinct-live (p ∷ placed) d = by (not p.element.deleted) (distinct-live placed d.1)
   where
-    by : (b : Bool) → HaveDistinctIds (elements_in (live_in placed)) → HaveDistinctIds (elements_in (cond b (p ∷ live_in placed) (live_in placed)))
+    by : (b : Bool) → HaveDistinctIds (elements_in (live_in placed))
+        → HaveDistinctIds (elements_in (cond b (p ∷ live_in placed) (live_in placed)))
     by true later = (apart-live p.element.id placed d.0, later)
     by false later = later
 
@@ -49,9 +53,12 @@ array-no-null : (texts : List (List ℕ)) → bytes_eq (array_text texts) null_w
 unfolding array_text
 array-no-null texts = refl
 
-items-given : (texts : List (List ℕ)) → HasItems (Some (array_text texts)) texts → HasItems (cond (bytes_eq (array_text texts) null_word) None (Some (array_text texts))) texts
+items-given : (texts : List (List ℕ)) → HasItems (Some (array_text texts)) texts
+    → HasItems (cond (bytes_eq (array_text texts) null_word) None (Some (array_text texts))) texts
 items-given texts has =
-    subst (λ found. HasItems found texts) (sym (cond-false (bytes_eq (array_text texts) null_word) None (Some (array_text texts)) (array-no-null texts))) has
+    subst (λ found. HasItems found texts)
+    (sym (cond-false (bytes_eq (array_text texts) null_word) None (Some (array_text texts)) (array-no-null texts)))
+    has
 
 pub item-clip : (item : Item) → IsWholeItem item → IsClipOf (clip_text item.elements) (clip_of item)
 unfolding clip_text
@@ -66,7 +73,10 @@ item-clip item whole =
       object = record {
         are_members = record {
           named = (literal (codes "type") refl, (literal (codes "elements") refl, tt));
-          valued = (quote-compact 127 (codes "excalidraw/clipboard") (literal (codes "excalidraw/clipboard") refl), (Value-deeper (lit≤ tt) (elements-compact item.elements sound.whole), tt));
+          valued = (
+            quote-compact 127 (codes "excalidraw/clipboard") (literal (codes "excalidraw/clipboard") refl),
+            (Value-deeper (lit≤ tt) (elements-compact item.elements sound.whole), tt),
+          );
           distinct = IsDistinct-from_count nat_list_eq_equiv _ refl;
         };
         spelled = refl;
@@ -77,7 +87,8 @@ item-clip item whole =
       files = refl;
       placed = placed;
       read = texts-placed 0 item.elements sound.whole;
-      distinct = (repeat-none (live_in placed)).1 (distinct-live placed (subst HaveDistinctIds (elements-placed 0 item.elements) sound.distinct));
+      distinct = (repeat-none (live_in placed)).1
+          (distinct-live placed (subst HaveDistinctIds (elements-placed 0 item.elements) sound.distinct));
       elements = refl;
       places = refl;
     }

@@ -15,7 +15,8 @@ use Rattle.library.specs.Items.{status_word}
 use Rattle.library.specs.Reading.{IsArray, IsStatus, IsTime}
 
 -- ---- one thing alone
-word-text : (found : Option (List ℕ)) (published : Bool) → found ≡ Some (quote (status_word published)) → IsText found (status_word published)
+word-text : (found : Option (List ℕ)) (published : Bool) → found ≡ Some (quote (status_word published))
+    → IsText found (status_word published)
 word-text found true e = (literal (codes "published") refl, e)
 word-text found false e = (literal (codes "unpublished") refl, e)
 
@@ -23,7 +24,9 @@ no-both : (found : Option (List ℕ)) → found ≡ Some (quote (status_word tru
 no-both found e (inl null) = null-no-text found (status_word true) null (word-text found true e)
 no-both found e (inr f) =
     let same : bytes_eq (codes "published") (codes "unpublished") ≡ true =
-    ap (bytes_eq (codes "published")) (sym (text-once found (status_word true) (status_word false) (word-text found true e) (word-text found false f))) ∙ bytes_eq-same (codes "published") in
+    ap (bytes_eq (codes "published"))
+    (sym (text-once found (status_word true) (status_word false) (word-text found true e)
+    (word-text found false f))) ∙ bytes_eq-same (codes "published") in
     both_ways false refl same
 
 pub status-once : (found : Option (List ℕ)) (a b : Bool) → IsStatus found a → IsStatus found b → a ≡ b
@@ -46,13 +49,15 @@ time-once found a b (inl one) (inr two) = absurd (null-no-whole found b one.0 tw
 time-once found a b (inr one) (inl two) = absurd (null-no-whole found a two.0 one)
 time-once found a b (inr one) (inr two) = whole-once found a b one two
 
-pub text_or_null-once : (found : Option (List ℕ)) (a b : Option (List ℕ)) → IsTextOrNull found a → IsTextOrNull found b → a ≡ b
+pub text_or_null-once : (found : Option (List ℕ)) (a b : Option (List ℕ)) → IsTextOrNull found a → IsTextOrNull found b
+    → a ≡ b
 text_or_null-once found None None one two = refl
 text_or_null-once found None (Some b) one two = absurd (null-no-text found b one two)
 text_or_null-once found (Some a) None one two = absurd (null-no-text found a two one)
 text_or_null-once found (Some a) (Some b) one two = ap Some (text-once found a b one two)
 
-pub array_of-once : (found : Option (List ℕ)) (values others : List (List ℕ)) → IsArray found values → IsArray found others → values ≡ others
+pub array_of-once : (found : Option (List ℕ)) (values others : List (List ℕ)) → IsArray found values
+    → IsArray found others → values ≡ others
 array_of-once found values others one two =
     array-once values others one.0 two.0 (same_Some (array_text values) (array_text others) (sym one.1 ∙ two.1))
 
@@ -74,23 +79,27 @@ null-or-not (Some v) = elim (cases_Bool (bytes_eq v null_word)) [
   where
     by : bytes_eq v null_word ≡ false → IsNull (Some v) → ⊥
     by e (inl none) = cc
-    by e (inr null) = both_ways (bytes_eq v null_word) e (ap (λ x. bytes_eq x null_word) (same_Some v null_word null) ∙ bytes_eq-same null_word)
+    by e (inr null) = both_ways (bytes_eq v null_word) e (ap (λ x. bytes_eq x null_word) (same_Some v null_word null)
+        ∙ bytes_eq-same null_word)
 
 -- nothing else says whether an item is published
-pub no-status : (found : Option (List ℕ)) → (found ≡ Some (quote (status_word true)) → ⊥) → (IsNull found → ⊥) → (found ≡ Some (quote (status_word false)) → ⊥) → (b : Bool) → IsStatus found b → ⊥
+pub no-status : (found : Option (List ℕ)) → (found ≡ Some (quote (status_word true)) → ⊥) → (IsNull found → ⊥)
+    → (found ≡ Some (quote (status_word false)) → ⊥) → (b : Bool) → IsStatus found b → ⊥
 no-status found first none second true is = first is
 no-status found first none second false (inl null) = none null
 no-status found first none second false (inr is) = second is
 
 pub status-or-not : (found : Option (List ℕ)) → Fits found → Decided (IsStatus found)
-status-or-not found fits = by (is-text found (status_word true) fits) (null-or-not found) (is-text found (status_word false) fits)
+status-or-not found fits =
+    by (is-text found (status_word true) fits) (null-or-not found) (is-text found (status_word false) fits)
   where
     by : IsText found (status_word true) ⊎ (IsText found (status_word true) → ⊥) → IsNull found ⊎ (IsNull found → ⊥)
         → IsText found (status_word false) ⊎ (IsText found (status_word false) → ⊥) → Decided (IsStatus found)
     by (inl is) null other = inl (true, is.1)
     by (inr first) (inl null) other = inl (false, inl null)
     by (inr first) (inr none) (inl is) = inl (false, inr is.1)
-    by (inr first) (inr none) (inr second) = inr (no-status found (λ is. first (word-text found true is)) none (λ is. second (word-text found false is)))
+    by (inr first) (inr none) (inr second) =
+        inr (no-status found (λ is. first (word-text found true is)) none (λ is. second (word-text found false is)))
 
 pub time-or-not : (found : Option (List ℕ)) → Fits found → Decided (IsTime found)
 time-or-not found fits = by (null-or-not found) (whole-or-not found)
@@ -107,7 +116,8 @@ time-or-not found fits = by (null-or-not found) (whole-or-not found)
 pub text_or_null-or-not : (found : Option (List ℕ)) → Fits found → Decided (IsTextOrNull found)
 text_or_null-or-not found fits = by (text-or-not found fits) (null-or-not found)
   where
-    neither : ((t : List ℕ) → IsText found t → ⊥) → (IsNull found → ⊥) → (o : Option (List ℕ)) → IsTextOrNull found o → ⊥
+    neither : ((t : List ℕ) → IsText found t → ⊥) → (IsNull found → ⊥) → (o : Option (List ℕ)) → IsTextOrNull found o
+        → ⊥
     neither none other None is = other is
     neither none other (Some t) is = none t is
 

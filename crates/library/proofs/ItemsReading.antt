@@ -12,7 +12,8 @@ use Rattle.library.specs.declared.fault.ItemFault.{ItemFault}
 use Rattle.library.specs.declared.fault.LibFault.{LibFault}
 use Rattle.library.specs.declared.item.Item.{Item}
 
-pub is-library : (members : List Pair) → value_at (codes "type") members ≡ Some (quote (codes "excalidrawlib")) → IsLibrary members
+pub is-library : (members : List Pair) → value_at (codes "type") members ≡ Some (quote (codes "excalidrawlib"))
+    → IsLibrary members
 is-library members kind = (literal (codes "excalidrawlib") refl, kind)
 
 pub lib_fault-same : (A : Type 0) (a b : LibFault) → stopped A (Fault a) ≡ stopped A (Fault b) → a ≡ b
@@ -22,19 +23,25 @@ pub item_fault-same : (A : Type 0) (a b : ItemFault) → stopped A (Fault a) ≡
 item_fault-same A a b e = cc
 
 -- ---- one value more
-read-append : (values : List (List ℕ)) (value : List ℕ) (items : List Item) (item : Item) → AreItemsIn values items → IsItemIn value item → AreItemsIn (values ++ value ∷ []) (items ++ item ∷ [])
+read-append : (values : List (List ℕ)) (value : List ℕ) (items : List Item) (item : Item) → AreItemsIn values items
+    → IsItemIn value item → AreItemsIn (values ++ value ∷ []) (items ++ item ∷ [])
 read-append [] value items item read is = (item, [], ap (λ xs. xs ++ item ∷ []) read, is, refl)
 read-append (v ∷ values) value items item (first, others, all, one, read) is =
     (first, others ++ item ∷ [], ap (λ xs. xs ++ item ∷ []) all, one, read-append values value others item read is)
 
-pub read-more : (values : List (List ℕ)) (i : ℕ) (value : List ℕ) (items new : List Item) (item : Item) → i < length values → value ≡ get_or values i value
-    → AreItemsIn (take i values) items → IsItemIn value item → new ≡ items ++ item ∷ [] → AreItemsIn (take (i + 1) values) new
+pub read-more : (values : List (List ℕ)) (i : ℕ) (value : List ℕ) (items new : List Item) (item : Item)
+    → i < length values → value ≡ get_or values i value
+    → AreItemsIn (take i values) items → IsItemIn value item → new ≡ items ++ item ∷ []
+    → AreItemsIn (take (i + 1) values) new
 read-more values i value items new item within at read is pushed =
-    let next : take (i + 1) values ≡ take i values ++ value ∷ [] = take_more values i value within ∙ ap (λ v. take i values ++ v ∷ []) (sym at) in
-    subst (λ vs. AreItemsIn vs new) (sym next) (subst (AreItemsIn (take i values ++ value ∷ [])) (sym pushed) (read-append (take i values) value items item read is))
+    let next : take (i + 1) values ≡ take i values ++ value ∷ [] =
+    take_more values i value within ∙ ap (λ v. take i values ++ v ∷ []) (sym at) in
+    subst (λ vs. AreItemsIn vs new) (sym next) (subst (AreItemsIn (take i values ++ value ∷ [])) (sym pushed)
+    (read-append (take i values) value items item read is))
 
 -- a faulty value behind values that are read
-pub faulty-next : (values : List (List ℕ)) (i : ℕ) (value : List ℕ) (items : List Item) (fault : ItemFault) → i < length values → value ≡ get_or values i value
+pub faulty-next : (values : List (List ℕ)) (i : ℕ) (value : List ℕ) (items : List Item) (fault : ItemFault)
+    → i < length values → value ≡ get_or values i value
     → AreItemsIn (take i values) items → IsItemFault value fault → IsFirstFaultyItem values i fault
 faulty-next [] i value items fault within at read faulty = absurd (omega arith)
 faulty-next (v ∷ values) zero value items fault within at read faulty = subst (λ w. IsItemFault w fault) at faulty

@@ -19,12 +19,15 @@ library-whole text items is = items-whole is.values items is.read
 
 -- whole items with one text are one
 text-one : (item other : Item) → IsWholeItem item → IsWholeItem other → item_text item ≡ item_text other → item ≡ other
-text-one item other one two same = item-once (item_text item) item other one (subst (λ text. IsItemIn text other) (sym same) two)
+text-one item other one two same =
+    item-once (item_text item) item other one (subst (λ text. IsItemIn text other) (sym same) two)
 
 -- of whole items one alone is the best of its id
-pub best-one : (items : List Item) (item other : Item) → All IsWholeItem items → IsBest items item → IsBest items other → item.id ≡ other.id → item ≡ other
+pub best-one : (items : List Item) (item other : Item) → All IsWholeItem items → IsBest items item → IsBest items other
+    → item.id ≡ other.id → item ≡ other
 best-one items item other whole one two e =
-    text-one item other (All-contains IsWholeItem items item whole one.among) (All-contains IsWholeItem items other whole two.among)
+    text-one item other (All-contains IsWholeItem items item whole one.among)
+    (All-contains IsWholeItem items other whole two.among)
     (better-neither item other (two.unbeaten item one.among e) (one.unbeaten other two.among (sym e))).1
 
 map-self : (items : List Item) → map (λ (item : Item). item) items ≡ items
@@ -32,26 +35,38 @@ map-self [] = refl
 map-self (item ∷ items) = ap (λ xs. item ∷ xs) (map-self items)
 
 -- the best of whole items depend on their set alone
-pub best-same : (items others best news : List Item) → HaveSameItems items others → All IsWholeItem items → AreBest items best → AreBest others news → best ≡ news
+pub best-same : (items others best news : List Item) → HaveSameItems items others → All IsWholeItem items
+    → AreBest items best → AreBest others news → best ≡ news
 best-same items others best news same whole h k =
     let R = λ (x y : Item). IsBest items x × IsBest items y × IsTied x y in
     sym (map-self best)
     ∙ same_along (λ (item : Item). item) R
-    (λ x y t. text-one x y (All-contains IsWholeItem items x whole t.0.among) (All-contains IsWholeItem items y whole t.1.among) (better-neither x y t.2.0 t.2.1).1)
-    None None best news h.ordered k.ordered (best-alike items others best news same h k) (best-back items others best news same h k)
+    (λ x y t. text-one x y (All-contains IsWholeItem items x whole t.0.among)
+    (All-contains IsWholeItem items y whole t.1.among) (better-neither x y t.2.0 t.2.1).1)
+    None None best news h.ordered k.ordered (best-alike items others best news same h k)
+    (best-back items others best news same h k)
     ∙ map-self news
 
 whole-best : (items best : List Item) → All IsWholeItem items → AreBest items best → All IsWholeItem best
 whole-best items best whole h =
-    All-weaker (Contains best) IsWholeItem (λ item c. All-contains IsWholeItem items item whole (h.each_is_best item c).among) best (All-contains_itself best)
+    All-weaker (Contains best) IsWholeItem
+    (λ item c. All-contains IsWholeItem items item whole (h.each_is_best item c).among) best
+    (All-contains_itself best)
 
 -- ---- the items of texts
-have-append : (texts others : List (List ℕ)) (items more : List Item) → HaveItems texts items → HaveItems others more → HaveItems (texts ++ others) (items ++ more)
+have-append : (texts others : List (List ℕ)) (items more : List Item) → HaveItems texts items → HaveItems others more
+    → HaveItems (texts ++ others) (items ++ more)
 have-append [] others items more one two = subst (λ xs. HaveItems others (xs ++ more)) (sym one) two
-have-append (text ∷ texts) others items more (own, rest, all, is, one) two =
-    (own, rest ++ more, ap (λ xs. xs ++ more) all ∙ append_assoc own rest more, is, have-append texts others rest more one two)
+have-append (text ∷ texts) others items more (own, rest, all, is, one) two = (
+  own,
+  rest ++ more,
+  ap (λ xs. xs ++ more) all ∙ append_assoc own rest more,
+  is,
+  have-append texts others rest more one two,
+)
 
-have-once : (texts : List (List ℕ)) (items others : List Item) → HaveItems texts items → HaveItems texts others → items ≡ others
+have-once : (texts : List (List ℕ)) (items others : List Item) → HaveItems texts items → HaveItems texts others
+    → items ≡ others
 have-once [] items others one two = one ∙ sym two
 have-once (text ∷ texts) items others (own, rest, all, is, one) (own', rest', all', is', two) =
     all ∙ (ap₂ (λ xs ys. xs ++ ys) (library-once text own own' is is') (have-once texts rest rest' one two) ∙ sym all')
@@ -59,45 +74,61 @@ have-once (text ∷ texts) items others (own, rest, all, is, one) (own', rest', 
 have-whole : (texts : List (List ℕ)) (items : List Item) → HaveItems texts items → All IsWholeItem items
 have-whole [] items one = subst (All IsWholeItem) (sym one) (λ k d l. absurd (omega arith))
 have-whole (text ∷ texts) items (own, rest, all, is, one) =
-    subst (All IsWholeItem) (sym all) (All-append IsWholeItem own rest (library-whole text own is) (have-whole texts rest one))
+    subst (All IsWholeItem) (sym all) (All-append IsWholeItem own rest (library-whole text own is)
+    (have-whole texts rest one))
 
 -- ---- libraries of texts
-pub library-of_set : (texts others : List (List ℕ)) (output other : List ℕ) → HaveSameItemsIn texts others → IsLibraryOfAll texts output → IsLibraryOfAll others other → output ≡ other
+pub library-of_set : (texts others : List (List ℕ)) (output other : List ℕ) → HaveSameItemsIn texts others
+    → IsLibraryOfAll texts output → IsLibraryOfAll others other → output ≡ other
 library-of_set texts others output other same one two =
     let first = have-once texts same.items one.items same.texts_have one.read in
     let second = have-once others same.other_items two.items same.others_have two.read in
     one.output_is
-    ∙ library-same one.items two.items one.best two.best (subst (λ xs. HaveSameItems xs two.items) first (subst (HaveSameItems same.items) second same.same)) one.are_best two.are_best
+    ∙ library-same one.items two.items one.best two.best
+    (subst (λ xs. HaveSameItems xs two.items) first (subst (HaveSameItems same.items) second same.same))
+    one.are_best two.are_best
     ∙ sym two.output_is
 
 itself : (items : List Item) → HaveSameItems items items
 itself items = record { in_others = λ item c. c; in_items = λ item c. c }
 
 -- texts have one library at most
-pub library_of-once : (texts : List (List ℕ)) (output other : List ℕ) → IsLibraryOfAll texts output → IsLibraryOfAll texts other → output ≡ other
+pub library_of-once : (texts : List (List ℕ)) (output other : List ℕ) → IsLibraryOfAll texts output
+    → IsLibraryOfAll texts other → output ≡ other
 library_of-once texts output other one two =
-    library-of_set texts texts output other (record { items = one.items; other_items = one.items; texts_have = one.read; others_have = one.read; same = itself one.items }) one two
+    library-of_set texts texts output other (record {
+      items = one.items;
+      other_items = one.items;
+      texts_have = one.read;
+      others_have = one.read;
+      same = itself one.items;
+    }) one two
 
 -- a library that is written is read as its items
 written-read : (texts : List (List ℕ)) (output : List ℕ) (is : IsLibraryOfAll texts output) → IsLibraryOf output is.best
 written-read texts output is =
-    subst (λ text. IsLibraryOf text is.best) (sym is.output_is) (library-back is.best (whole-best is.items is.best (have-whole texts is.items is.read) is.are_best))
+    subst (λ text. IsLibraryOf text is.best) (sym is.output_is)
+    (library-back is.best (whole-best is.items is.best (have-whole texts is.items is.read) is.are_best))
 
-pub libraries-join : (texts others : List (List ℕ)) (output other all : List ℕ) → IsLibraryOfAll texts output → IsLibraryOfAll others other → IsLibraryOfAll (output ∷ other ∷ []) all → IsLibraryOfAll (texts ++ others) all
+pub libraries-join : (texts others : List (List ℕ)) (output other all : List ℕ) → IsLibraryOfAll texts output
+    → IsLibraryOfAll others other → IsLibraryOfAll (output ∷ other ∷ []) all → IsLibraryOfAll (texts ++ others) all
 libraries-join texts others output other all one two both = record {
   items = one.items ++ two.items;
   read = have-append texts others one.items two.items one.read two.read;
   best = both.best;
-  are_best = AreBest-append one.items two.items one.best two.best both.best one.are_best two.are_best (subst (λ xs. AreBest xs both.best) (read both.items both.read) both.are_best);
+  are_best = AreBest-append one.items two.items one.best two.best both.best one.are_best two.are_best
+      (subst (λ xs. AreBest xs both.best) (read both.items both.read) both.are_best);
   output_is = both.output_is;
 }
   where
     read : (items : List Item) → HaveItems (output ∷ other ∷ []) items → items ≡ one.best ++ two.best
     read items (first, rest, all, is, (second, none, more, also, e)) =
         all ∙ ap₂ (λ xs ys. xs ++ ys) (library-once output first one.best is (written-read texts output one))
-        (more ∙ (ap₂ (λ xs ys. xs ++ ys) (library-once other second two.best also (written-read others other two)) e ∙ append-nil two.best))
+        (more ∙ (ap₂ (λ xs ys. xs ++ ys) (library-once other second two.best also (written-read others other two)) e
+        ∙ append-nil two.best))
 
-pub library-own : (texts : List (List ℕ)) (output : List ℕ) → IsLibraryOfAll texts output → IsLibraryOfAll (output ∷ []) output
+pub library-own : (texts : List (List ℕ)) (output : List ℕ) → IsLibraryOfAll texts output
+    → IsLibraryOfAll (output ∷ []) output
 library-own texts output is = record {
   items = is.best;
   read = (is.best, [], sym (append-nil is.best), written-read texts output is, refl);
@@ -106,5 +137,6 @@ library-own texts output is = record {
   output_is = is.output_is;
 }
 
-pub library-only : (texts : List (List ℕ)) (output other : List ℕ) → IsLibraryOfAll texts output → IsLibraryOfAll (output ∷ []) other → other ≡ output
+pub library-only : (texts : List (List ℕ)) (output other : List ℕ) → IsLibraryOfAll texts output
+    → IsLibraryOfAll (output ∷ []) other → other ≡ output
 library-only texts output other one two = library_of-once (output ∷ []) other output two (library-own texts output one)

@@ -45,7 +45,8 @@ pub better-below : (a b c : Item) → is_better b a ≡ false → is_better c b 
 better-below a b c first second = let text = less-below a b c in grind (arith, nat_tests)
 
 -- Where neither is better, they were made at the same time and have one text.
-pub better-neither : (a b : Item) → is_better a b ≡ false → is_better b a ≡ false → (a.created ≡ b.created) × (item_text a ≡ item_text b)
+pub better-neither : (a b : Item) → is_better a b ≡ false → is_better b a ≡ false → (a.created ≡ b.created)
+    × (item_text a ≡ item_text b)
 better-neither a b first second =
     let times : a.created ≡ b.created = grind (arith, nat_tests) in
     let less : text_less a b ≡ false = grind (arith, nat_tests) in

@@ -30,7 +30,8 @@ elements-placed place [] = refl
 elements-placed place (e ∷ elements) = ap (λ es. e ∷ es) (elements-placed (suc place) elements)
 
 -- the texts of whole elements are read as these, each at its place
-pub texts-placed : (place : ℕ) (elements : List ElementValue) → All IsWholeElement elements → AreReadFrom place (map element_text elements) (placed_from place elements)
+pub texts-placed : (place : ℕ) (elements : List ElementValue) → All IsWholeElement elements
+    → AreReadFrom place (map element_text elements) (placed_from place elements)
 texts-placed place [] whole = refl
 texts-placed place (e ∷ elements) whole =
     inr (
@@ -42,15 +43,20 @@ texts-placed place (e ∷ elements) whole =
       texts-placed (suc place) elements (All-tail IsWholeElement e elements whole),
     )
 
-texts-nest : (limit : ℕ) → 120 ≤ limit → (elements : List ElementValue) → All IsWholeElement elements → AllByRecursion (IsCompact limit) (map element_text elements)
+texts-nest : (limit : ℕ) → 120 ≤ limit → (elements : List ElementValue) → All IsWholeElement elements
+    → AllByRecursion (IsCompact limit) (map element_text elements)
 texts-nest limit deep [] whole = tt
-texts-nest limit deep (e ∷ elements) whole =
-    (Value-deeper deep (All-head IsWholeElement e elements whole).shallow, texts-nest limit deep elements (All-tail IsWholeElement e elements whole))
+texts-nest limit deep (e ∷ elements) whole = (
+  Value-deeper deep (All-head IsWholeElement e elements whole).shallow,
+  texts-nest limit deep elements (All-tail IsWholeElement e elements whole),
+)
 
-pub texts-array : (elements : List ElementValue) → All IsWholeElement elements → IsArray (Some (array_text (map element_text elements))) (map element_text elements)
+pub texts-array : (elements : List ElementValue) → All IsWholeElement elements
+    → IsArray (Some (array_text (map element_text elements))) (map element_text elements)
 texts-array elements whole = (texts-nest 127 (lit≤ tt) elements whole, refl)
 
-pub distinct-placed : (elements : List ElementValue) → HaveDistinctIds elements → first_repeat (placed_from 0 elements) ≡ None
+pub distinct-placed : (elements : List ElementValue) → HaveDistinctIds elements
+    → first_repeat (placed_from 0 elements) ≡ None
 distinct-placed elements distinct =
     (repeat-none (placed_from 0 elements)).1 (subst HaveDistinctIds (elements-placed 0 elements) distinct)
 
@@ -79,7 +85,8 @@ item-sound value item is =
       named = says.id.1;
       created = sound-time (value_at (codes "created") is.members) item.created says.created;
       name = sound-name (value_at (codes "name") is.members) item.name says.name;
-      whole = subst (All IsWholeElement) (sym elements.elements_are) (placed-whole says.values elements.placed elements.read);
+      whole = subst (All IsWholeElement) (sym elements.elements_are)
+          (placed-whole says.values elements.placed elements.read);
       distinct = subst HaveDistinctIds (sym elements.elements_are) ((repeat-none elements.placed).0 elements.distinct);
     }
 
@@ -88,22 +95,55 @@ word-utf8 : (published : Bool) → IsUtf8 (status_word published)
 word-utf8 true = literal (codes "published") refl
 word-utf8 false = literal (codes "unpublished") refl
 
-pub elements-compact : (elements : List ElementValue) → All IsWholeElement elements → IsCompact 121 (array_text (map element_text elements))
-elements-compact elements whole = array-compact 120 (map element_text elements) (texts-nest 120 (lit≤ tt) elements whole)
+pub elements-compact : (elements : List ElementValue) → All IsWholeElement elements
+    → IsCompact 121 (array_text (map element_text elements))
+elements-compact elements whole =
+    array-compact 120 (map element_text elements) (texts-nest 120 (lit≤ tt) elements whole)
 
 members-are : (id : List ℕ) (published : Bool) (created : ℕ) (name : Option (List ℕ)) (elements : List ElementValue)
     → IsSoundItem (record { id = id; published = published; created = created; name = name; elements = elements })
-    → AreMembers 121 (item_members (record { id = id; published = published; created = created; name = name; elements = elements }))
+    → AreMembers 121 (item_members (record {
+      id = id;
+      published = published;
+      created = created;
+      name = name;
+      elements =
+          elements;
+    }))
 members-are id published created None elements is = record {
-  named = (literal (codes "id") refl, (literal (codes "status") refl, (literal (codes "created") refl, (literal (codes "elements") refl, tt))));
-  valued = (quote-compact 121 id is.id, (quote-compact 121 (status_word published) (word-utf8 published), (decimal_nests 121 created (omega (arith, is.created)), (elements-compact elements is.whole, tt))));
+  named = (
+    literal (codes "id") refl,
+    (
+      literal (codes "status") refl,
+      (literal (codes "created") refl, (literal (codes "elements") refl, tt)),
+    ),
+  );
+  valued = (
+    quote-compact 121 id is.id,
+    (
+      quote-compact 121 (status_word published) (word-utf8 published),
+      (decimal_nests 121 created (omega (arith, is.created)), (elements-compact elements is.whole, tt)),
+    ),
+  );
   distinct = IsDistinct-from_count nat_list_eq_equiv _ refl;
 }
 members-are id published created (Some name) elements is = record {
-  named = (literal (codes "id") refl, (literal (codes "status") refl, (literal (codes "created") refl, (literal (codes "name") refl, (literal (codes "elements") refl, tt)))));
+  named = (
+    literal (codes "id") refl,
+    (
+      literal (codes "status") refl,
+      (literal (codes "created") refl, (literal (codes "name") refl, (literal (codes "elements") refl, tt))),
+    ),
+  );
   valued = (
     quote-compact 121 id is.id,
-    (quote-compact 121 (status_word published) (word-utf8 published), (decimal_nests 121 created (omega (arith, is.created)), (quote-compact 121 name (is.name name refl), (elements-compact elements is.whole, tt)))),
+    (
+      quote-compact 121 (status_word published) (word-utf8 published),
+      (
+        decimal_nests 121 created (omega (arith, is.created)),
+        (quote-compact 121 name (is.name name refl), (elements-compact elements is.whole, tt)),
+      ),
+    ),
   );
   distinct = IsDistinct-from_count nat_list_eq_equiv _ refl;
 }
@@ -114,7 +154,14 @@ word-said false = inr refl
 
 members-say : (id : List ℕ) (published : Bool) (created : ℕ) (name : Option (List ℕ)) (elements : List ElementValue)
     → IsSoundItem (record { id = id; published = published; created = created; name = name; elements = elements })
-    → IsItemOf (item_members (record { id = id; published = published; created = created; name = name; elements = elements })) (record { id = id; published = published; created = created; name = name; elements = elements })
+    → IsItemOf (item_members (record {
+      id = id;
+      published = published;
+      created = created;
+      name = name;
+      elements =
+          elements;
+    })) (record { id = id; published = published; created = created; name = name; elements = elements })
 members-say id published created None elements is = record {
   id = ((is.id, refl), is.named);
   status = word-said published;
@@ -122,7 +169,13 @@ members-say id published created None elements is = record {
   name = inl refl;
   values = map element_text elements;
   array = texts-array elements is.whole;
-  elements = record { placed = placed_from 0 elements; read = texts-placed 0 elements is.whole; distinct = distinct-placed elements is.distinct; elements_are = elements-placed 0 elements };
+  elements = record {
+    placed = placed_from 0 elements;
+    read = texts-placed 0 elements is.whole;
+    distinct =
+        distinct-placed elements is.distinct;
+    elements_are = elements-placed 0 elements;
+  };
 }
 members-say id published created (Some name) elements is = record {
   id = ((is.id, refl), is.named);
@@ -131,7 +184,13 @@ members-say id published created (Some name) elements is = record {
   name = (is.name name refl, refl);
   values = map element_text elements;
   array = texts-array elements is.whole;
-  elements = record { placed = placed_from 0 elements; read = texts-placed 0 elements is.whole; distinct = distinct-placed elements is.distinct; elements_are = elements-placed 0 elements };
+  elements = record {
+    placed = placed_from 0 elements;
+    read = texts-placed 0 elements is.whole;
+    distinct =
+        distinct-placed elements is.distinct;
+    elements_are = elements-placed 0 elements;
+  };
 }
 
 -- a sound item is whole
@@ -139,7 +198,12 @@ sound-whole : (item : Item) → IsSoundItem item → IsWholeItem item
 unfolding item_text
 sound-whole item is = record {
   members = item_members item;
-  object = record { are_members = AreMembers-deeper 121 127 (item_members item) (lit≤ tt) (members-are item.id item.published item.created item.name item.elements is); spelled = refl };
+  object =
+      record {
+        are_members = AreMembers-deeper 121 127 (item_members item) (lit≤ tt)
+            (members-are item.id item.published item.created item.name item.elements is);
+        spelled = refl;
+      };
   says = members-say item.id item.published item.created item.name item.elements is;
 }
 
@@ -150,29 +214,38 @@ item-whole value item is = sound-whole item (item-sound value item is)
 pub items-whole : (values : List (List ℕ)) (items : List Item) → AreItemsIn values items → All IsWholeItem items
 items-whole [] items read = subst (All IsWholeItem) (sym read) (λ k d l. absurd (omega arith))
 items-whole (value ∷ values) items (item, others, all, is, read) =
-    subst (All IsWholeItem) (sym all) (All-cons IsWholeItem item others (item-whole value item is) (items-whole values others read))
+    subst (All IsWholeItem) (sym all) (All-cons IsWholeItem item others (item-whole value item is)
+    (items-whole values others read))
 
 item-compact : (item : Item) → IsWholeItem item → IsCompact 122 (item_text item)
 unfolding item_text
 item-compact item whole =
-    object-compact 121 (item_members item) (members-are item.id item.published item.created item.name item.elements (item-sound (item_text item) item whole))
+    object-compact 121 (item_members item) (members-are item.id item.published item.created item.name item.elements
+    (item-sound (item_text item) item whole))
 
 -- ---- a library
-items-nest : (limit : ℕ) → 122 ≤ limit → (items : List Item) → All IsWholeItem items → AllByRecursion (IsCompact limit) (map item_text items)
+items-nest : (limit : ℕ) → 122 ≤ limit → (items : List Item) → All IsWholeItem items
+    → AllByRecursion (IsCompact limit) (map item_text items)
 items-nest limit deep [] whole = tt
-items-nest limit deep (item ∷ items) whole =
-    (Value-deeper deep (item-compact item (All-head IsWholeItem item items whole)), items-nest limit deep items (All-tail IsWholeItem item items whole))
+items-nest limit deep (item ∷ items) whole = (
+  Value-deeper deep (item-compact item (All-head IsWholeItem item items whole)),
+  items-nest limit deep items (All-tail IsWholeItem item items whole),
+)
 
 items-read : (items : List Item) → All IsWholeItem items → AreItemsIn (map item_text items) items
 items-read [] whole = refl
-items-read (item ∷ items) whole = (item, items, refl, All-head IsWholeItem item items whole, items-read items (All-tail IsWholeItem item items whole))
+items-read (item ∷ items) whole =
+    (item, items, refl, All-head IsWholeItem item items whole, items-read items (All-tail IsWholeItem item items whole))
 
 library-are : (items : List Item) → All IsWholeItem items → AreMembers 127 (library_members items)
 library-are items whole = record {
   named = (literal (codes "type") refl, (literal (codes "version") refl, (literal (codes "libraryItems") refl, tt)));
   valued = (
     quote-compact 127 (codes "excalidrawlib") (literal (codes "excalidrawlib") refl),
-    (decimal_nests 127 2 (omega arith), (Value-deeper (lit≤ tt) (array-compact 122 (map item_text items) (items-nest 122 (lit≤ tt) items whole)), tt)),
+    (
+      decimal_nests 127 2 (omega arith),
+      (Value-deeper (lit≤ tt) (array-compact 122 (map item_text items) (items-nest 122 (lit≤ tt) items whole)), tt),
+    ),
   );
   distinct = IsDistinct-from_count nat_list_eq_equiv _ refl;
 }

@@ -43,8 +43,8 @@ pub record AreBest (items best : List Item) : Type 0 where
 abbrev pub is_put : List Item → Item → Bool
 is_put best item = option_map_or (is_better item) (item_of best item.id) true
 
--- These are the best items after one more was put among them: where it is new or better it is the item
--- of its id, and the others stay.
+-- These are the best items after one more was put among them: where it is new or better it is the
+-- item of its id, and the others stay.
 pub record HasPut (old : List Item) (item : Item) (new : List Item) : Type 0 where
   pub ordered : are_rising (ids_of new) ≡ true
   pub each : (id : List ℕ)

@@ -1,5 +1,5 @@
--- The text of an item and that of a library. After Excalidraw's library files; that every item has these
--- members alone, and in this order, is this project's own.
+-- The text of an item and that of a library. After Excalidraw's library files; that every item has
+-- these members alone, and in this order, is this project's own.
 use Rattle.std.specs.Prelude.{ℕ, List, [], ◌∷◌, ◌++◌, Bool, true, false, Option, Some, None, map, codes, decimal}
 use Rattle.json_text.specs.Characters.{quote}
 use Rattle.json_text.specs.Compact.{Member as Pair, array_text, object_text}

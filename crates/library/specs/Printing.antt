@@ -1,5 +1,5 @@
--- The parts of an item's text that are appended one after the other. Only contracts of private functions
--- cite this.
+-- The parts of an item's text that are appended one after the other. Only contracts of private
+-- functions cite this.
 use Rattle.std.specs.Prelude.{ℕ, List, [], ◌++◌, Bool, true, false, Option, Some, None, codes, decimal}
 use Rattle.json_text.specs.Characters.{quote}
 

@@ -1,6 +1,6 @@
--- What an item's text and a library's text say, and their first faults. After Excalidraw's library files of
--- version 2; which forms are accepted, what is missing counts as, and the order of the faults is this
--- project's own.
+-- What an item's text and a library's text say, and their first faults. After Excalidraw's library
+-- files of version 2; which forms are accepted, what is missing counts as, and the order of the
+-- faults is this project's own.
 use Rattle.std.specs.Prelude.{◌≡◌, ◌⊎◌, ◌<◌, ℕ, zero, suc, List, [], ◌∷◌, Bool, true, false, Option, Some, None, codes}
 use Rattle.std.specs.List.{AllByRecursion}
 use Rattle.json_text.specs.Characters.{quote}

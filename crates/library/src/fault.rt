@@ -23,7 +23,8 @@ pub enum ItemFault {
     Name,
     /// `elements` isn't an array.
     Elements,
-    /// The element at this place of the array, counted from 0, is the first with a fault, and has this one.
+    /// The element at this place of the array, counted from 0, is the first with a fault, and has
+    /// this one.
     Element(u64, ElemFault),
     /// The element at this place of the array is the first that has the id of an earlier one.
     Repeated(u64),
@@ -38,7 +39,8 @@ pub enum LibFault {
     NotLibrary,
     /// `libraryItems` isn't an array, as in files of version 1, which have none.
     Items,
-    /// The item at this place of the array, counted from 0, is the first with a fault, and has this one.
+    /// The item at this place of the array, counted from 0, is the first with a fault, and has this
+    /// one.
     Item(u64, ItemFault),
 }
 
@@ -47,8 +49,9 @@ pub enum LibFault {
 pub enum InsertFault {
     /// The library has no item of this id.
     NoItem,
-    /// The id that the copy of the element at this place of the item's elements, counted from 0, would have is stored.
-    /// Deleted elements count, and what was dropped when the item was read doesn't.
+    /// The id that the copy of the element at this place of the item's elements, counted from 0,
+    /// would have is stored. Deleted elements count, and what was dropped when the item was read
+    /// doesn't.
     Exists(u64),
 }
 

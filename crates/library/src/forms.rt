@@ -49,7 +49,8 @@ pub(crate) fn time_named(members: &List<Member>, name: &str) -> Option<u64>
     whole_named(members, name)
 }
 
-/// The text that the member of this name is, or none where it is missing; the outer `None` where it is of another form.
+/// The text that the member of this name is, or none where it is missing; the outer `None` where it
+/// is of another form.
 pub(crate) fn text_or_null_named(
     alloc: Global,
     members: &List<Member>,

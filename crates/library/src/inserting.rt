@@ -21,8 +21,8 @@ use json_text::Text;
 use scene_file::Head;
 use std::alloc::{AllocError, Global};
 
-/// Pastes the clip of the item of this id: copies of its elements that aren't deleted. Where it is refused, and for
-/// want of memory, the head and the stored elements are as before.
+/// Pastes the clip of the item of this id: copies of its elements that aren't deleted. Where it is
+/// refused, and for want of memory, the head and the stored elements are as before.
 pub fn insert(
     alloc: Global,
     head: &mut Head,
@@ -83,7 +83,8 @@ fn insert_item(
     }
 }
 
-/// The clip of these elements: copies of those that aren't deleted, with their places, and no files.
+/// The clip of these elements: copies of those that aren't deleted, with their places, and no
+/// files.
 fn clip_of(alloc: Global, elements: &[Element]) -> Result<Clip, AllocError>
     ensures { IfOk result (λ clip. clip ≡ clip_with elements.now) }
 {

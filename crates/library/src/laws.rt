@@ -69,8 +69,8 @@ pub fn best_exist()
     ensures all { (items : List Item) → (best : List Item) × AreBest items best }
 {}
 
-/// What is found under an id among best items is the best item of that id; and nothing is found only where no item
-/// has it.
+/// What is found under an id among best items is the best item of that id; and nothing is found
+/// only where no item has it.
 pub fn best_are_found()
     ensures found { (items best : List Item) (id : List ℕ) (item : Item)
         → AreBest items best → item_of best id ≡ Some item → IsBest items item × (item.id ≡ id) }
@@ -90,8 +90,8 @@ pub fn put_is_best()
         → AreBest items best → HasPut best item new → AreBest (items ++ item ∷ []) new }
 {}
 
-/// The best items of a list, and so the text of their library, depend on the set of its items alone: on neither their
-/// order nor their repetition.
+/// The best items of a list, and so the text of their library, depend on the set of its items
+/// alone: on neither their order nor their repetition.
 pub fn best_are_of_the_set()
     ensures texts { (items others best news : List Item) → HaveSameItems items others
         → AreBest items best → AreBest others news → library_text best ≡ library_text news }
@@ -133,8 +133,8 @@ pub fn library_is_its_own()
         → IsLibraryOfAll texts output → IsLibraryOfAll (output ∷ []) other → other ≡ output }
 {}
 
-/// Inserting an item is pasting its elements: the clip with the elements of a whole item is read as the clip that is
-/// inserted.
+/// Inserting an item is pasting its elements: the clip with the elements of a whole item is read as
+/// the clip that is inserted.
 pub fn item_is_a_clip()
     ensures { (item : Item) → IsWholeItem item → IsClipOf (clip_text item.elements) (clip_of item) }
 {}

@@ -1,4 +1,5 @@
-//! Library files: they are read, the best item of each id is kept, and an item is inserted into a board.
+//! Library files: they are read, the best item of each id is kept, and an item is inserted into a
+//! board.
 #![tactic(auto)]
 
 mod fault;

@@ -8,8 +8,9 @@ use crate::printing::push_item;
 use board_base::bytes_order;
 use std::alloc::{AllocError, Global};
 
-/// Whether an item is better than another one of its id: it was made later, or at the same time and its text is less
-/// in the order of the bytes. It takes memory only where both were made at the same time.
+/// Whether an item is better than another one of its id: it was made later, or at the same time and
+/// its text is less in the order of the bytes. It takes memory only where both were made at the
+/// same time.
 pub(crate) fn is_better(alloc: Global, a: &Item, b: &Item) -> Result<bool, AllocError>
     ensures better { IfOk result (λ better. better ≡ best.is_better a.now b.now) }
     ensures sure { a.now.created ≢ b.now.created → IsOk result }

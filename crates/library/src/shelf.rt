@@ -72,9 +72,9 @@ impl Shelf {
         Ok(shelf)
     }
 
-    /// Keeps the item where its id is new or it is better than the one of its id, and tells whether it did. For want
-    /// of memory it hands the item back, and the kept items are unchanged. It takes no memory where an item of the id
-    /// is kept that was made at another time.
+    /// Keeps the item where its id is new or it is better than the one of its id, and tells whether
+    /// it did. For want of memory it hands the item back, and the kept items are unchanged. It
+    /// takes no memory where an item of the id is kept that was made at another time.
     pub fn put(&mut self, item: Item) -> Result<bool, (Item, AllocError)>
         // The best items of a list are then those of the list with this one at its end.
         ensures best { OnOk result ((items : Items Item) → AreBest items self.old
@@ -98,7 +98,8 @@ impl Shelf {
         filed_under(&self.items, id)
     }
 
-    /// Appends the texts of the items, with commas between them. After want of memory a part of them may stand there.
+    /// Appends the texts of the items, with commas between them. After want of memory a part of
+    /// them may stand there.
     pub(crate) fn push_items(&self, out: &mut Vec<u8>) -> Result<(), AllocError>
         ensures { OnOk result (out.new.items ≡ out.old.items
             ++ join_with_byte 44 (map item_text self.now)) }

@@ -1,4 +1,5 @@
--- What a test finds among some of the elements of a list: the same as in all of it, where those that pass it are among these.
+-- What a test finds among some of the elements of a list: the same as in all of it, where those that pass it are among
+-- these.
 use Rattle.std.proofs.Common.{◌≡◌, ℕ, zero, suc, Bool, true, false, cond, ◌&&◌, List, [], ◌∷◌, find, filter, map, Some, Contains, bytes_eq, refl, sym, ap, ◌∙◌, subst, inl, inr, arith}
 use Rattle.std.specs.List.{list_any, AllByRecursion, IsDistinct}
 use Rattle.std.proofs.lemmas.Bool.{both_ways, cases_Bool, cond-true, cond-false, false_from_ne_true}
@@ -23,7 +24,8 @@ module _ {X : Type 0} (p q : X → Bool) where
   find-among [] h = refl
   find-among (x ∷ xs) h =
       elim (cases_Bool (p x)) [
-        | inl t ↦ ap (find q) (cond-true (p x) (x ∷ filter p xs) (filter p xs) t) ∙ ap (λ o. cond (q x) (Some x) o) (find-among xs (rest x xs h))
+        | inl t ↦ ap (find q) (cond-true (p x) (x ∷ filter p xs) (filter p xs) t)
+            ∙ ap (λ o. cond (q x) (Some x) o) (find-among xs (rest x xs h))
         | inr f ↦ ap (find q) (cond-false (p x) (x ∷ filter p xs) (filter p xs) f) ∙ find-among xs (rest x xs h)
             ∙ sym (cond-false (q x) (Some x) (find q xs) (fails x xs h f))
       ]
@@ -32,7 +34,8 @@ module _ {X : Type 0} (p q : X → Bool) where
   filter-among [] h = refl
   filter-among (x ∷ xs) h =
       elim (cases_Bool (p x)) [
-        | inl t ↦ ap (filter q) (cond-true (p x) (x ∷ filter p xs) (filter p xs) t) ∙ ap (λ ys. cond (q x) (x ∷ ys) ys) (filter-among xs (rest x xs h))
+        | inl t ↦ ap (filter q) (cond-true (p x) (x ∷ filter p xs) (filter p xs) t)
+            ∙ ap (λ ys. cond (q x) (x ∷ ys) ys) (filter-among xs (rest x xs h))
         | inr f ↦ ap (filter q) (cond-false (p x) (x ∷ filter p xs) (filter p xs) f) ∙ filter-among xs (rest x xs h)
             ∙ sym (cond-false (q x) (x ∷ filter q xs) (filter q xs) (fails x xs h f))
       ]
@@ -50,7 +53,11 @@ module _ {X : Type 0} (p q : X → Bool) where
   pub Contains-among : (xs : List X) (x : X) → Contains xs x → p x ≡ true → Contains (filter p xs) x
   Contains-among [] x c t = absurd (omega (arith, c.1))
   Contains-among (y ∷ xs) x (zero, l, e) t =
-      subst (λ ys. Contains ys x) (sym (cond-true (p y) (y ∷ filter p xs) (filter p xs) (ap p e ∙ t))) (0, omega arith, e)
+      subst (λ ys. Contains ys x) (sym (cond-true (p y) (y ∷ filter p xs) (filter p xs) (ap p e ∙ t))) (
+        0,
+        omega arith,
+        e,
+      )
   Contains-among (y ∷ xs) x (suc k, l, e) t =
       elim (p y) as (λ b. Contains (cond b (y ∷ filter p xs) (filter p xs)) x) [
         | true ↦ Contains-cons y (filter p xs) x (Contains-among xs x (k, omega arith, e) t)
@@ -70,15 +77,19 @@ same-and true a b h = h refl
 same-and false a b h = refl
 
 -- ---- ids stay distinct
-apart-filter : (id : List ℕ) (p : ElementValue → Bool) (es : List ElementValue) → AllByRecursion (λ other. bytes_eq id other ≡ false) (map id_of es) → AllByRecursion (λ other. bytes_eq id other ≡ false) (map id_of (filter p es))
+apart-filter : (id : List ℕ) (p : ElementValue → Bool) (es : List ElementValue)
+    → AllByRecursion (λ other. bytes_eq id other ≡ false) (map id_of es)
+    → AllByRecursion (λ other. bytes_eq id other ≡ false) (map id_of (filter p es))
 apart-filter id p [] h = tt
 apart-filter id p (e ∷ es) h =
-    elim (p e) as (λ b. AllByRecursion (λ other. bytes_eq id other ≡ false) (map id_of (cond b (e ∷ filter p es) (filter p es)))) [
+    elim (p e) as (λ b. AllByRecursion (λ other. bytes_eq id other ≡ false)
+    (map id_of (cond b (e ∷ filter p es) (filter p es)))) [
       | true ↦ (h.0, apart-filter id p es h.1)
       | false ↦ apart-filter id p es h.1
     ]
 
-pub distinct-among : (p : ElementValue → Bool) (es : List ElementValue) → HaveDistinctIds es → HaveDistinctIds (filter p es)
+pub distinct-among : (p : ElementValue → Bool) (es : List ElementValue) → HaveDistinctIds es
+    → HaveDistinctIds (filter p es)
 unfolding IsDistinct
 distinct-among p [] h = tt
 distinct-among p (e ∷ es) h =

@@ -28,7 +28,8 @@ module _ {X : Type 0} where
 
   pub map-same : {Y : Type 0} (f g : X → Y) (xs : List X) → ((x : X) → Contains xs x → f x ≡ g x) → map f xs ≡ map g xs
   map-same f g [] h = refl
-  map-same f g (x ∷ xs) h = ap₂ (λ y ys. y ∷ ys) (h x (Contains-head x xs)) (map-same f g xs (λ y c. h y (Contains-cons x xs y c)))
+  map-same f g (x ∷ xs) h =
+      ap₂ (λ y ys. y ∷ ys) (h x (Contains-head x xs)) (map-same f g xs (λ y c. h y (Contains-cons x xs y c)))
 
   pub map-map : {Y Z : Type 0} (g : Y → Z) (f : X → Y) (xs : List X) → map g (map f xs) ≡ map (λ x. g (f x)) xs
   map-map g f [] = refl
@@ -39,23 +40,29 @@ module _ {X : Type 0} where
   map-fixed f (y ∷ xs) x h (zero, l, e) = let here : f y ≡ y = cc in subst (λ z. f z ≡ z) e here
   map-fixed f (y ∷ xs) x h (suc k, l, e) = map-fixed f xs x (cc) (k, omega arith, e)
 
-  pub filter-map : {Y : Type 0} (p : Y → Bool) (f : X → Y) (xs : List X) → filter p (map f xs) ≡ map f (filter (λ x. p (f x)) xs)
+  pub filter-map : {Y : Type 0} (p : Y → Bool) (f : X → Y) (xs : List X)
+      → filter p (map f xs) ≡ map f (filter (λ x. p (f x)) xs)
   filter-map p f [] = refl
   filter-map p f (x ∷ xs) =
-      elim (p (f x)) as (λ b. cond b (f x ∷ filter p (map f xs)) (filter p (map f xs)) ≡ map f (cond b (x ∷ filter (λ x. p (f x)) xs) (filter (λ x. p (f x)) xs))) [
+      elim (p (f x)) as (λ b. cond b (f x ∷ filter p (map f xs)) (filter p (map f xs))
+      ≡ map f (cond b (x ∷ filter (λ x. p (f x)) xs) (filter (λ x. p (f x)) xs))) [
         | true ↦ ap (λ ys. f x ∷ ys) (filter-map p f xs)
         | false ↦ filter-map p f xs
       ]
 
-  pub find-map : {Y : Type 0} (p : Y → Bool) (f : X → Y) (xs : List X) → find p (map f xs) ≡ option_map f (find (λ x. p (f x)) xs)
+  pub find-map : {Y : Type 0} (p : Y → Bool) (f : X → Y) (xs : List X)
+      → find p (map f xs) ≡ option_map f (find (λ x. p (f x)) xs)
   find-map p f [] = refl
   find-map p f (x ∷ xs) =
-      elim (p (f x)) as (λ b. cond b (Some (f x)) (find p (map f xs)) ≡ option_map f (cond b (Some x) (find (λ x. p (f x)) xs))) [ true ↦ refl | false ↦ find-map p f xs ]
+      elim (p (f x)) as (λ b. cond b (Some (f x)) (find p (map f xs))
+      ≡ option_map f (cond b (Some x) (find (λ x. p (f x)) xs))) [ true ↦ refl | false ↦ find-map p f xs ]
 
-  pub Contains-map : {Y : Type 0} (f : X → Y) (xs : List X) (y : Y) → Contains (map f xs) y → (x : X) × Contains xs x × (f x ≡ y)
+  pub Contains-map : {Y : Type 0} (f : X → Y) (xs : List X) (y : Y) → Contains (map f xs) y → (x : X) × Contains xs x
+      × (f x ≡ y)
   Contains-map f [] y c = absurd (omega (arith, c.1))
   Contains-map f (x ∷ xs) y (zero, l, e) = (x, Contains-head x xs, e)
-  Contains-map f (x ∷ xs) y (suc k, l, e) = let r = Contains-map f xs y (k, omega arith, e) in (r.0, Contains-cons x xs r.0 r.1, r.2)
+  Contains-map f (x ∷ xs) y (suc k, l, e) =
+      let r = Contains-map f xs y (k, omega arith, e) in (r.0, Contains-cons x xs r.0 r.1, r.2)
 
 module _ {X : Type 0} (p : X → Bool) where
   pub list_any-from : (xs : List X) (x : X) → Contains xs x → p x ≡ true → list_any p xs ≡ true
@@ -69,9 +76,11 @@ module _ {X : Type 0} (p : X → Bool) where
         | inr later ↦ let r = list_any-found xs later in (r.0, Contains-cons x xs r.0 r.1, r.2)
       ]
 
-  pub list_any-same : (q : X → Bool) (xs : List X) → ((x : X) → Contains xs x → p x ≡ q x) → list_any p xs ≡ list_any q xs
+  pub list_any-same : (q : X → Bool) (xs : List X) → ((x : X) → Contains xs x → p x ≡ q x)
+      → list_any p xs ≡ list_any q xs
   list_any-same q [] h = refl
-  list_any-same q (x ∷ xs) h = ap₂ (λ a b. a || b) (h x (Contains-head x xs)) (list_any-same q xs (λ y c. h y (Contains-cons x xs y c)))
+  list_any-same q (x ∷ xs) h =
+      ap₂ (λ a b. a || b) (h x (Contains-head x xs)) (list_any-same q xs (λ y c. h y (Contains-cons x xs y c)))
 
   -- a test and a truth
   pub list_any-and : (b : Bool) (xs : List X) → list_any (λ x. p x && b) xs ≡ (list_any p xs && b)
@@ -98,21 +107,26 @@ module _ {X : Type 0} (p : X → Bool) where
   find-found (x ∷ xs) h =
       elim (cases_Bool (p x)) [
         | inl t ↦ (x, cond-true (p x) (Some x) (find p xs) t)
-        | inr f ↦ let r = find-found xs (sym (ap (λ b. b || list_any p xs) f) ∙ h) in (r.0, cond-false (p x) (Some x) (find p xs) f ∙ r.1)
+        | inr f ↦ let r = find-found xs (sym (ap (λ b. b || list_any p xs) f) ∙ h) in
+            (r.0, cond-false (p x) (Some x) (find p xs) f ∙ r.1)
       ]
 
   pub find-None : (xs : List X) → ((x : X) → Contains xs x → p x ≡ false) → find p xs ≡ None
   find-None [] h = refl
-  find-None (x ∷ xs) h = cond-false (p x) (Some x) (find p xs) (h x (Contains-head x xs)) ∙ find-None xs (λ y c. h y (Contains-cons x xs y c))
+  find-None (x ∷ xs) h = cond-false (p x) (Some x) (find p xs) (h x (Contains-head x xs))
+      ∙ find-None xs (λ y c. h y (Contains-cons x xs y c))
 
   -- a narrower test that what is found passes finds it too
-  pub find-narrow : (q : X → Bool) (xs : List X) → ((x : X) → q x ≡ true → p x ≡ true) → ((x : X) → find p xs ≡ Some x → q x ≡ true) → find q xs ≡ find p xs
+  pub find-narrow : (q : X → Bool) (xs : List X) → ((x : X) → q x ≡ true → p x ≡ true)
+      → ((x : X) → find p xs ≡ Some x → q x ≡ true) → find q xs ≡ find p xs
   find-narrow q [] narrow first = refl
   find-narrow q (x ∷ xs) narrow first =
       elim (cases_Bool (p x)) [
-        | inl t ↦ cond-true (q x) (Some x) (find q xs) (first x (cond-true (p x) (Some x) (find p xs) t)) ∙ sym (cond-true (p x) (Some x) (find p xs) t)
+        | inl t ↦ cond-true (q x) (Some x) (find q xs) (first x (cond-true (p x) (Some x) (find p xs) t))
+            ∙ sym (cond-true (p x) (Some x) (find p xs) t)
         | inr f ↦ cond-false (q x) (Some x) (find q xs) (fails (q x) (λ h. both_ways (p x) f (narrow x h)))
-            ∙ find-narrow q xs narrow (λ y h. first y (cond-false (p x) (Some x) (find p xs) f ∙ h)) ∙ sym (cond-false (p x) (Some x) (find p xs) f)
+            ∙ find-narrow q xs narrow (λ y h. first y (cond-false (p x) (Some x) (find p xs) f ∙ h))
+            ∙ sym (cond-false (p x) (Some x) (find p xs) f)
       ]
     where
       fails : (b : Bool) → (b ≡ true → ⊥) → b ≡ false
@@ -120,12 +134,14 @@ module _ {X : Type 0} (p : X → Bool) where
       fails false h = refl
 
 -- ---- elements of one id are one
-apart_at : (id : List ℕ) (xs : List ElementValue) (y : ElementValue) → AllByRecursion (λ other. bytes_eq id other ≡ false) (map id_of xs) → Contains xs y → bytes_eq id y.id ≡ false
+apart_at : (id : List ℕ) (xs : List ElementValue) (y : ElementValue)
+    → AllByRecursion (λ other. bytes_eq id other ≡ false) (map id_of xs) → Contains xs y → bytes_eq id y.id ≡ false
 apart_at id [] y h c = absurd (omega (arith, c.1))
 apart_at id (x ∷ xs) y h (zero, l, e) = ap (λ (z : ElementValue). bytes_eq id z.id) (sym e) ∙ h.0
 apart_at id (x ∷ xs) y h (suc k, l, e) = apart_at id xs y h.1 (k, omega arith, e)
 
-pub one_of_id : (xs : List ElementValue) (x y : ElementValue) → HaveDistinctIds xs → Contains xs x → Contains xs y → x.id ≡ y.id → x ≡ y
+pub one_of_id : (xs : List ElementValue) (x y : ElementValue) → HaveDistinctIds xs → Contains xs x → Contains xs y
+    → x.id ≡ y.id → x ≡ y
 one_of_id [] x y apart c d same = absurd (omega (arith, c.1))
 one_of_id (z ∷ xs) x y apart (zero, l, e) (zero, m, f) same = sym e ∙ f
 one_of_id (z ∷ xs) x y apart (zero, l, e) (suc k, m, f) same =

@@ -15,8 +15,10 @@ use Rattle.links.proofs.Tabled.{list_any-map}
 any-first : (p : List ℕ → Bool) (ids : List (List ℕ)) → list_any p (first_texts ids) ≡ list_any p ids
 any-first p ids =
     same_bools (list_any p (first_texts ids)) (list_any p ids)
-    (λ h. let found = list_any-found p (first_texts ids) h in list_any-from p ids found.0 ((Contains-first_texts ids found.0).0 found.1) found.2)
-    (λ h. let found = list_any-found p ids h in list_any-from p (first_texts ids) found.0 ((Contains-first_texts ids found.0).1 found.1) found.2)
+    (λ h. let found = list_any-found p (first_texts ids) h in
+    list_any-from p ids found.0 ((Contains-first_texts ids found.0).0 found.1) found.2)
+    (λ h. let found = list_any-found p ids h in
+    list_any-from p (first_texts ids) found.0 ((Contains-first_texts ids found.0).1 found.1) found.2)
 
 any-there : (id : List ℕ) (o : Option (List ℕ)) → list_any (bytes_eq id) (id_there o) ≡ is_id id o
 any-there id None = refl
@@ -36,21 +38,25 @@ rows_of-named e id =
     let frame = id_there e.frame in
     let start = id_there (target_of e.start_binding) in
     let end' = id_there (target_of e.end_binding) in
-    list_any-map (λ (named : List ℕ). record { named = named; namer = e.id }) (is_for id) (first_texts (container ++ (frame ++ (start ++ end'))))
+    list_any-map (λ (named : List ℕ). record { named = named; namer = e.id }) (is_for id)
+    (first_texts (container ++ (frame ++ (start ++ end'))))
     ∙ any-first p (container ++ (frame ++ (start ++ end')))
     ∙ list_any-append p container (frame ++ (start ++ end'))
-    ∙ ap (λ b. list_any p container || b) (list_any-append p frame (start ++ end') ∙ ap (λ b. list_any p frame || b) (list_any-append p start end'))
+    ∙ ap (λ b. list_any p container || b) (list_any-append p frame (start ++ end')
+    ∙ ap (λ b. list_any p frame || b) (list_any-append p start end'))
     ∙ or_assoc (list_any p container) (list_any p frame) (list_any p start || list_any p end')
     ∙ ap₂ (λ a b. a || b) (ap₂ (λ a b. a || b) (any-there id e.container) (any-there id e.frame))
     (ap₂ (λ a b. a || b) (any-there id (target_of e.start_binding)) (any-there id (target_of e.end_binding)))
 
 -- no row comes twice
 apart-rows : (id namer : List ℕ) (ids : List (List ℕ)) → AllByRecursion (λ other. bytes_eq id other ≡ false) ids
-    → AllByRecursion (λ (row : LinkRow). same_row (record { named = id; namer = namer }) row ≡ false) (map (λ (other : List ℕ). record { named = other; namer = namer }) ids)
+    → AllByRecursion (λ (row : LinkRow). same_row (record { named = id; namer = namer }) row ≡ false)
+    (map (λ (other : List ℕ). record { named = other; namer = namer }) ids)
 apart-rows id namer [] h = tt
 apart-rows id namer (other ∷ ids) h = (ap (λ b. b && bytes_eq namer namer) h.0, apart-rows id namer ids h.1)
 
-distinct-rows : (namer : List ℕ) (ids : List (List ℕ)) → IsDistinct bytes_eq ids → IsDistinct same_row (map (λ (id : List ℕ). record { named = id; namer = namer }) ids)
+distinct-rows : (namer : List ℕ) (ids : List (List ℕ)) → IsDistinct bytes_eq ids
+    → IsDistinct same_row (map (λ (id : List ℕ). record { named = id; namer = namer }) ids)
 unfolding IsDistinct
 distinct-rows namer [] h = tt
 distinct-rows namer (id ∷ ids) h = (apart-rows id namer ids h.0, distinct-rows namer ids h.1)

@@ -26,8 +26,10 @@ distinct-texts list = subst (IsDistinct bytes_eq) (sym (map-map id_of (with_sett
 pub distinct-arrows : (list : List ElementValue) → HaveDistinctIds list → HaveDistinctIds (settled_arrows list)
 distinct-arrows list = subst (IsDistinct bytes_eq) (sym (map-map id_of (with_settled_links list) list))
 
-pub texts-of_links : (list : List ElementValue) → HaveDistinctIds list → settled_texts (settled_links list) ≡ settled_links list
+pub texts-of_links : (list : List ElementValue) → HaveDistinctIds list
+    → settled_texts (settled_links list) ≡ settled_links list
 texts-of_links list distinct = settled_texts-linked (settled_texts list) (settled_texts-again list distinct)
 
-pub links-again : (list : List ElementValue) → HaveDistinctIds list → settled_links (settled_links list) ≡ settled_links list
+pub links-again : (list : List ElementValue) → HaveDistinctIds list
+    → settled_links (settled_links list) ≡ settled_links list
 links-again list distinct = ap settled_arrows (texts-of_links list distinct) ∙ settled_arrows-again (settled_texts list)

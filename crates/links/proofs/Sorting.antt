@@ -16,40 +16,52 @@ use Rattle.links.specs.Tables.{is_under, row_less}
 
 -- ---- what lies between the places where two tests of a list turn
 module _ {X : Type 0} (below up_to among : X → Bool)
-    (before : (x : X) → below x ≡ true → among x ≡ false) (at' : (x : X) → below x ≡ false → up_to x ≡ true → among x ≡ true)
+    (before : (x : X) → below x ≡ true → among x ≡ false) (at' : (x : X) → below x ≡ false → up_to x ≡ true
+    → among x ≡ true)
     (behind : (x : X) → up_to x ≡ false → among x ≡ false) (less : (x : X) → below x ≡ true → up_to x ≡ true) where
-  turns_tail : (p : X → Bool) (x : X) (xs : List X) (i j : ℕ) → j ≡ i - 1 → IsPartitionPoint (λ y. p y ≡ true) (λ y. p y ≡ false) (x ∷ xs) i → IsPartitionPoint (λ y. p y ≡ true) (λ y. p y ≡ false) xs j
-  turns_tail p x xs i j is h = (λ k d l m. h.0 (suc k) d (omega arith) (omega arith), λ k d l m. h.1 (suc k) d (omega arith) (omega arith))
+  turns_tail : (p : X → Bool) (x : X) (xs : List X) (i j : ℕ) → j ≡ i - 1
+      → IsPartitionPoint (λ y. p y ≡ true) (λ y. p y ≡ false) (x ∷ xs) i
+      → IsPartitionPoint (λ y. p y ≡ true) (λ y. p y ≡ false) xs j
+  turns_tail p x xs i j is h =
+      (λ k d l m. h.0 (suc k) d (omega arith) (omega arith), λ k d l m. h.1 (suc k) d (omega arith) (omega arith))
 
   pub between-filter : (xs : List X) (a b : ℕ)
-      → IsPartitionPoint (λ y. below y ≡ true) (λ y. below y ≡ false) xs a → IsPartitionPoint (λ y. up_to y ≡ true) (λ y. up_to y ≡ false) xs b
+      → IsPartitionPoint (λ y. below y ≡ true) (λ y. below y ≡ false) xs a
+      → IsPartitionPoint (λ y. up_to y ≡ true) (λ y. up_to y ≡ false) xs b
       → take (b - a) (drop a xs) ≡ filter among xs
   between-filter [] a b f g = ap (take (b - a)) (drop-nil a) ∙ take-nil (b - a)
   between-filter (x ∷ xs) zero zero f g =
       between-filter xs 0 0 (turns_tail below x xs 0 0 (omega arith) f) (turns_tail up_to x xs 0 0 (omega arith) g)
-      ∙ sym (cond-false (among x) (x ∷ filter among xs) (filter among xs) (behind x (g.1 0 x (omega arith) (omega arith))))
+      ∙ sym (cond-false (among x) (x ∷ filter among xs) (filter among xs)
+      (behind x (g.1 0 x (omega arith) (omega arith))))
   between-filter (x ∷ xs) zero (suc b) f g =
       let e : suc b - 0 ≡ suc (b - 0) = omega arith in
       ap (λ n. take n (x ∷ xs)) e
-      ∙ ap (λ ys. x ∷ ys) (between-filter xs 0 b (turns_tail below x xs 0 0 (omega arith) f) (turns_tail up_to x xs (suc b) b (omega arith) g))
-      ∙ sym (cond-true (among x) (x ∷ filter among xs) (filter among xs) (at' x (f.1 0 x (omega arith) (omega arith)) (g.0 0 x (omega arith) (omega arith))))
+      ∙ ap (λ ys. x ∷ ys) (between-filter xs 0 b (turns_tail below x xs 0 0 (omega arith) f)
+      (turns_tail up_to x xs (suc b) b (omega arith) g))
+      ∙ sym (cond-true (among x) (x ∷ filter among xs) (filter among xs)
+      (at' x (f.1 0 x (omega arith) (omega arith)) (g.0 0 x (omega arith) (omega arith))))
   between-filter (x ∷ xs) (suc a) zero f g =
       absurd (both_ways (up_to x) (g.1 0 x (omega arith) (omega arith)) (less x (f.0 0 x (omega arith) (omega arith))))
   between-filter (x ∷ xs) (suc a) (suc b) f g =
       let e : suc b - suc a ≡ b - a = omega arith in
       ap (λ n. take n (drop a xs)) e
-      ∙ between-filter xs a b (turns_tail below x xs (suc a) a (omega arith) f) (turns_tail up_to x xs (suc b) b (omega arith) g)
-      ∙ sym (cond-false (among x) (x ∷ filter among xs) (filter among xs) (before x (f.0 0 x (omega arith) (omega arith))))
+      ∙ between-filter xs a b (turns_tail below x xs (suc a) a (omega arith) f)
+      (turns_tail up_to x xs (suc b) b (omega arith) g)
+      ∙ sym (cond-false (among x) (x ∷ filter among xs) (filter among xs)
+      (before x (f.0 0 x (omega arith) (omega arith))))
 
   pub turns-ordered : (xs : List X) (a b : ℕ) → a ≤ length xs
-      → IsPartitionPoint (λ y. below y ≡ true) (λ y. below y ≡ false) xs a → IsPartitionPoint (λ y. up_to y ≡ true) (λ y. up_to y ≡ false) xs b → a ≤ b
+      → IsPartitionPoint (λ y. below y ≡ true) (λ y. below y ≡ false) xs a
+      → IsPartitionPoint (λ y. up_to y ≡ true) (λ y. up_to y ≡ false) xs b → a ≤ b
   turns-ordered [] zero b l f g = omega arith
   turns-ordered [] (suc a) b l f g = absurd (omega arith)
   turns-ordered (x ∷ xs) zero b l f g = omega arith
   turns-ordered (x ∷ xs) (suc a) zero l f g =
       absurd (both_ways (up_to x) (g.1 0 x (omega arith) (omega arith)) (less x (f.0 0 x (omega arith) (omega arith))))
   turns-ordered (x ∷ xs) (suc a) (suc b) l f g =
-      let m = turns-ordered xs a b (omega arith) (turns_tail below x xs (suc a) a (omega arith) f) (turns_tail up_to x xs (suc b) b (omega arith) g) in
+      let m = turns-ordered xs a b (omega arith) (turns_tail below x xs (suc a) a (omega arith) f)
+      (turns_tail up_to x xs (suc b) b (omega arith) g) in
       omega arith
 
 -- ---- the order of rows
@@ -72,23 +84,29 @@ abbrev pub is_not_greater : List ℕ → List ℕ → Bool
 is_not_greater key id = is_le (slice_cmp nat_cmp id key)
 
 pub not_greater-is : (key id : List ℕ) → is_not_greater key id ≡ not (is_lt (slice_cmp nat_cmp key id))
-not_greater-is key id = le_is (slice_cmp nat_cmp id key) ∙ ap (λ o. not (is_lt o)) (sym (nat_list_cmp_total.antisymm key id))
+not_greater-is key id =
+    le_is (slice_cmp nat_cmp id key) ∙ ap (λ o. not (is_lt o)) (sym (nat_list_cmp_total.antisymm key id))
 
 -- things in the order of their ids
-module _ {X : Type 0} (id_of : X → List ℕ) (xs : List X) (key : List ℕ) (up : IsSortedBy (λ x y. is_lt (slice_cmp nat_cmp (id_of x) (id_of y))) xs) where
-  rises : (i j : ℕ) (d : X) → i ≤ j → j < length xs → is_lt (slice_cmp nat_cmp (id_of (get_or xs j d)) (id_of (get_or xs i d))) ≡ false
-  rises i j d l m = sorted_far (λ x y. is_lt (slice_cmp nat_cmp (id_of x) (id_of y))) (ranks_by nat_list_cmp_total id_of) xs up i j d l m
+module _ {X : Type 0} (id_of : X → List ℕ) (xs : List X) (key : List ℕ)
+    (up : IsSortedBy (λ x y. is_lt (slice_cmp nat_cmp (id_of x) (id_of y))) xs) where
+  rises : (i j : ℕ) (d : X) → i ≤ j → j < length xs
+      → is_lt (slice_cmp nat_cmp (id_of (get_or xs j d)) (id_of (get_or xs i d))) ≡ false
+  rises i j d l m = sorted_far (λ x y. is_lt (slice_cmp nat_cmp (id_of x) (id_of y)))
+      (ranks_by nat_list_cmp_total id_of) xs up i j d l m
 
   pub less-partitioned : IsPartitionedBy (λ x. is_less key (id_of x)) xs
   less-partitioned i j d l m h =
       true_from_ne_false (is_less key (id_of (get_or xs i d)))
-      (λ no. both_ways (is_less key (id_of (get_or xs j d))) (less-order.chain (id_of (get_or xs j d)) (id_of (get_or xs i d)) key (rises i j d l m) no) h)
+      (λ no. both_ways (is_less key (id_of (get_or xs j d)))
+      (less-order.chain (id_of (get_or xs j d)) (id_of (get_or xs i d)) key (rises i j d l m) no) h)
 
   pub not_greater-partitioned : IsPartitionedBy (λ x. is_not_greater key (id_of x)) xs
   not_greater-partitioned i j d l m h =
       let not_less = not-true _ (sym (not_greater-is key (id_of (get_or xs j d))) ∙ h) in
       not_greater-is key (id_of (get_or xs i d))
-      ∙ not_from_false _ (less-order.chain key (id_of (get_or xs j d)) (id_of (get_or xs i d)) not_less (rises i j d l m))
+      ∙ not_from_false _ (less-order.chain key (id_of (get_or xs j d)) (id_of (get_or xs i d)) not_less
+      (rises i j d l m))
 
 -- whether a row's id is less than another one, and whether it isn't greater
 abbrev pub is_below : List ℕ → Row → Bool
@@ -97,10 +115,12 @@ is_below key row = is_less key row.key.now
 abbrev pub is_up_to : List ℕ → Row → Bool
 is_up_to key row = is_not_greater key row.key.now
 
-pub below-partitioned : (rows : List Row) (key : List ℕ) → IsSortedBy row_less rows → IsPartitionedBy (is_below key) rows
+pub below-partitioned : (rows : List Row) (key : List ℕ) → IsSortedBy row_less rows
+    → IsPartitionedBy (is_below key) rows
 below-partitioned rows key up = less-partitioned (λ (row : Row). row.key.now) rows key up
 
-pub up_to-partitioned : (rows : List Row) (key : List ℕ) → IsSortedBy row_less rows → IsPartitionedBy (is_up_to key) rows
+pub up_to-partitioned : (rows : List Row) (key : List ℕ) → IsSortedBy row_less rows
+    → IsPartitionedBy (is_up_to key) rows
 up_to-partitioned rows key up = not_greater-partitioned (λ (row : Row). row.key.now) rows key up
 
 pub before_is : (o : Ordering) → is_lt o ≡ true → is_eq o ≡ false
@@ -132,21 +152,26 @@ module _ (rows : List Row) (key : List ℕ) (a b : ℕ)
   pub rows-between : take (b - a) (drop a rows) ≡ filter (is_under key) rows
   rows-between =
       between-filter (is_below key) (is_up_to key) (λ row. is_eq (slice_cmp nat_cmp row.key.now key))
-      (λ row h. before_is _ h) (λ row h k. at_is _ h k) (λ row h. behind_is _ h) (λ row h. less_is _ h) rows a b start end'
-      ∙ filter_agree (λ row. is_eq (slice_cmp nat_cmp row.key.now key)) (is_under key) (λ row. sym (under_is key row)) rows
+      (λ row h. before_is _ h) (λ row h k. at_is _ h k) (λ row h. behind_is _ h) (λ row h. less_is _ h) rows a b start
+      end'
+      ∙ filter_agree (λ row. is_eq (slice_cmp nat_cmp row.key.now key)) (is_under key) (λ row. sym (under_is key row))
+      rows
 
   pub rows-ordered : a ≤ length rows → a ≤ b
   rows-ordered l =
       turns-ordered (is_below key) (is_up_to key) (λ row. is_eq (slice_cmp nat_cmp row.key.now key))
-      (λ row h. before_is _ h) (λ row h k. at_is _ h k) (λ row h. behind_is _ h) (λ row h. less_is _ h) rows a b l start end'
+      (λ row h. before_is _ h) (λ row h k. at_is _ h k) (λ row h. behind_is _ h) (λ row h. less_is _ h) rows a b l start
+      end'
 
 -- where no row behind the lesser ones has the id, both tests turn there
 pub absent-point : (rows : List Row) (key : List ℕ) (a : ℕ) → IsSortedBy row_less rows
-    → IsPartitionPoint (λ row. is_below key row ≡ true) (λ row. is_below key row ≡ false) rows a → ((d : Row) → a < length rows → is_up_to key (get_or rows a d) ≡ false)
+    → IsPartitionPoint (λ row. is_below key row ≡ true) (λ row. is_below key row ≡ false) rows a
+    → ((d : Row) → a < length rows → is_up_to key (get_or rows a d) ≡ false)
     → IsPartitionPoint (λ row. is_up_to key row ≡ true) (λ row. is_up_to key row ≡ false) rows a
 absent-point rows key a up start behind = (
   λ k d l m. less_is _ (start.0 k d l m),
-  λ k d l m. false_from_ne_true (is_up_to key (get_or rows k d)) (λ h. both_ways _ (behind d (omega (arith, l, m))) (up_to-partitioned rows key up a k d l m h)),
+  λ k d l m. false_from_ne_true (is_up_to key (get_or rows k d))
+      (λ h. both_ways _ (behind d (omega (arith, l, m))) (up_to-partitioned rows key up a k d l m h)),
 )
 
 -- ---- rows of one id keep their order
@@ -180,10 +205,12 @@ ties_are Greater = refl
 ties-under : (key : List ℕ) (row : Row) → ties row_less (row_at key) row ≡ is_under key row
 unfolding row_at
 ties-under key row =
-    ap (λ o. not (is_lt o) && not (is_lt (slice_cmp nat_cmp row.key.now key))) (nat_list_cmp_total.antisymm key row.key.now)
+    ap (λ o. not (is_lt o) && not (is_lt (slice_cmp nat_cmp row.key.now key)))
+    (nat_list_cmp_total.antisymm key row.key.now)
     ∙ ties_are (slice_cmp nat_cmp row.key.now key) ∙ sym (under_is key row)
 
-pub kept-under : (rows new : List Row) → IsStableBy row_less rows new → (key : List ℕ) → filter (is_under key) new ≡ filter (is_under key) rows
+pub kept-under : (rows new : List Row) → IsStableBy row_less rows new → (key : List ℕ)
+    → filter (is_under key) new ≡ filter (is_under key) rows
 kept-under rows new stable key =
     sym (filter_agree (ties row_less (row_at key)) (is_under key) (ties-under key) new)
     ∙ stable (row_at key) ∙ filter_agree (ties row_less (row_at key)) (is_under key) (ties-under key) rows

@@ -27,12 +27,14 @@ and_false true b h = h
 and_false false b h = refl
 
 list_any-none : {X : Type 0} (p : X → Bool) (xs : List X) (x : X) → list_any p xs ≡ false → Contains xs x → p x ≡ false
-list_any-none p xs x none there = false_from_ne_true (p x) (λ h. both_ways (list_any p xs) none (list_any-from p xs x there h))
+list_any-none p xs x none there =
+    false_from_ne_true (p x) (λ h. both_ways (list_any p xs) none (list_any-from p xs x there h))
 
 filter-none_of : {X : Type 0} (p : X → Bool) (xs : List X) → ((x : X) → Contains xs x → p x ≡ false) → filter p xs ≡ []
 filter-none_of p [] h = refl
 filter-none_of p (x ∷ xs) h =
-    cond-false (p x) (x ∷ filter p xs) (filter p xs) (h x (Contains-head x xs)) ∙ filter-none_of p xs (λ y there. h y (Contains-cons x xs y there))
+    cond-false (p x) (x ∷ filter p xs) (filter p xs) (h x (Contains-head x xs))
+    ∙ filter-none_of p xs (λ y there. h y (Contains-cons x xs y there))
 
 map-stays : {X : Type 0} (f : X → X) (xs : List X) → ((x : X) → Contains xs x → f x ≡ x) → map f xs ≡ xs
 map-stays f xs h = map-same f (λ x. x) xs h ∙ itself xs
@@ -41,11 +43,13 @@ map-stays f xs h = map-same f (λ x. x) xs h ∙ itself xs
     itself [] = refl
     itself (x ∷ xs) = ap (λ ys. x ∷ ys) (itself xs)
 
-pub settled_texts-none : (list : List ElementValue) → list_any (λ (e : ElementValue). is_some e.container) list ≡ false → settled_texts list ≡ list
+pub settled_texts-none : (list : List ElementValue) → list_any (λ (e : ElementValue). is_some e.container) list ≡ false
+    → settled_texts list ≡ list
 settled_texts-none list none =
     map-stays (with_settled_container list) list
     (λ e there. ap (λ container. record e { container = container })
-    (kept-none (keeps_container list e) e.container (none_is e.container (list_any-none (λ (x : ElementValue). is_some x.container) list e none there))))
+    (kept-none (keeps_container list e) e.container
+    (none_is e.container (list_any-none (λ (x : ElementValue). is_some x.container) list e none there))))
 
 -- what an element without links lacks
 record LacksLinks (e : ElementValue) : Type 0 where
@@ -63,7 +67,8 @@ empty_is xs h = nil_from_length xs (grind (arith, h))
 
 lacks : (e : ElementValue) → is_linked e ≡ false → LacksLinks e
 lacks e h =
-    let first = or_both (not (length e.bound == 0)) (is_some e.container || (is_some e.start_binding || is_some e.end_binding)) h in
+    let first = or_both (not (length e.bound == 0)) (is_some e.container
+    || (is_some e.start_binding || is_some e.end_binding)) h in
     let second = or_both (is_some e.container) (is_some e.start_binding || is_some e.end_binding) first.1 in
     let third = or_both (is_some e.start_binding) (is_some e.end_binding) second.1 in
     record {
@@ -81,8 +86,10 @@ module _ (list : List ElementValue) (none : list_any is_linked list ≡ false) w
   no_text e there =
       elim (cases_Bool (can_hold_text e.kind)) [
         | inl t ↦ held list e t
-            ∙ ap₂ (λ l f. option_or (option_map (λ (entry : BoundRef). entry.id) l) (option_map id_of f)) (ap (find (is_text_entry list e)) (each e there).bound)
-            (find-None (names_container e.id) list (λ x among. and_false (is_text x.kind) (is_id e.id x.container) (ap (is_id e.id) (each x among).container)))
+            ∙ ap₂ (λ l f. option_or (option_map (λ (entry : BoundRef). entry.id) l) (option_map id_of f))
+            (ap (find (is_text_entry list e)) (each e there).bound)
+            (find-None (names_container e.id) list (λ x among. and_false (is_text x.kind) (is_id e.id x.container)
+            (ap (is_id e.id) (each x among).container)))
         | inr f ↦ not_held list e f
       ]
 
@@ -104,6 +111,8 @@ module _ (list : List ElementValue) (none : list_any is_linked list ≡ false) w
   pub settled_arrows-none : settled_arrows list ≡ list
   settled_arrows-none =
       map-stays (with_settled_links list) list
-      (λ e there. ap (λ start. record (with_settled_links list e) { start_binding = start }) (kept-none (names_target list (target_of e.start_binding)) e.start_binding (each e there).start)
-      ∙ (ap (λ end'. record e { end_binding = end'; bound = listing list e }) (kept-none (names_target list (target_of e.end_binding)) e.end_binding (each e there).end')
+      (λ e there. ap (λ start. record (with_settled_links list e) { start_binding = start })
+      (kept-none (names_target list (target_of e.start_binding)) e.start_binding (each e there).start)
+      ∙ (ap (λ end'. record e { end_binding = end'; bound = listing list e })
+      (kept-none (names_target list (target_of e.end_binding)) e.end_binding (each e there).end')
       ∙ ap (λ bound. record e { bound = bound }) (no_listing e there)))

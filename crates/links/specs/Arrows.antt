@@ -1,4 +1,5 @@
--- Bound arrows and the listings of what they are bound to. This project's own, after Excalidraw's bindings.
+-- Bound arrows and the listings of what they are bound to. This project's own, after Excalidraw's
+-- bindings.
 use Rattle.std.specs.Prelude.{ℕ, List, [], ◌∷◌, ◌++◌, Bool, false, ◌&&◌, Option, Some, None, filter, map, if◌then◌else◌}
 use Rattle.std.specs.List.{list_any}
 use Rattle.elem.specs.declared.kind.Role.{Role}
@@ -24,7 +25,8 @@ settled_end list end' = if names_target list (target_of end') then end' else Non
 abbrev pub is_bound_to : ElementValue → ElementValue → Bool
 is_bound_to e arrow = is_target e && has_end_at e.id arrow
 
--- whether an entry of an element's listing is true: of an arrow of the list that is bound to it, or of its text
+-- whether an entry of an element's listing is true: of an arrow of the list that is bound to it, or
+-- of its text
 abbrev pub is_true_as : Role → List ElementValue → ElementValue → List ℕ → Bool
 is_true_as Arrow list e id = list_any (λ arrow. has_id id arrow && is_bound_to e arrow) list
 is_true_as Text list e id = is_id id (text_of list e)
@@ -34,17 +36,19 @@ is_true_entry list e entry = is_true_as entry.role list e entry.id
 
 -- the entries of the arrows that are bound to an element, in the list's order, and that of its text
 abbrev pub arrow_entries : List ElementValue → ElementValue → List BoundRef
-arrow_entries list e = map (λ (arrow : ElementValue). arrow_entry arrow.id) (filter (is_bound_to e) list)
+arrow_entries list e =
+    map (λ (arrow : ElementValue). arrow_entry arrow.id) (filter (is_bound_to e) list)
 
 abbrev pub text_entries : Option (List ℕ) → List BoundRef
 text_entries None = []
 text_entries (Some id) = text_entry id ∷ []
 
--- The listing of this element: its own true entries, then the entries of the arrows that are bound to it, in the list's
--- order, then that of its text; of each the first occurrence.
+-- The listing of this element: its own true entries, then the entries of the arrows that are bound
+-- to it, in the list's order, then that of its text; of each the first occurrence.
 unfoldable pub listing : List ElementValue → ElementValue → List BoundRef
 listing list e =
-    first_entries (filter (is_true_entry list e) e.bound ++ (arrow_entries list e ++ text_entries (text_of list e)))
+    first_entries (filter (is_true_entry list e) e.bound
+    ++ (arrow_entries list e ++ text_entries (text_of list e)))
 
 -- the settled element of arrows: with its ends settled, and its listing made anew
 abbrev pub with_settled_links : List ElementValue → ElementValue → ElementValue

@@ -55,8 +55,8 @@ can_hold_text Iframe = false
 can_hold_text Embeddable = false
 can_hold_text (Other name) = false
 
--- whether an element of this kind without a container may be what an arrow is bound to: all but arrows, lines,
--- freedraws and unknown kinds
+-- whether an element of this kind without a container may be what an arrow is bound to: all but
+-- arrows, lines, freedraws and unknown kinds
 abbrev pub can_be_bound_to : Kind → Bool
 can_be_bound_to Rectangle = true
 can_be_bound_to Diamond = true
@@ -93,6 +93,7 @@ end_names id end' = is_id id (target_of end')
 abbrev pub has_end_at : List ℕ → ElementValue → Bool
 has_end_at id e = is_arrow e.kind && (end_names id e.start_binding || end_names id e.end_binding)
 
--- Whether an element is a bindable target: its kind may be bound to, and it has no container, as a text may.
+-- Whether an element is a bindable target: its kind may be bound to, and it has no container, as a
+-- text may.
 abbrev pub is_target : ElementValue → Bool
 is_target e = can_be_bound_to e.kind && is_none e.container

@@ -12,10 +12,12 @@ abbrev pub id_there : Option (List ℕ) → List (List ℕ)
 id_there None = []
 id_there (Some id) = id ∷ []
 
--- the ids that an element names: its container's, its frame's and those that its ends are bound to, each once
+-- the ids that an element names: its container's, its frame's and those that its ends are bound to,
+-- each once
 abbrev pub named_ids : ElementValue → List (List ℕ)
 named_ids e = first_texts (id_there e.container
-    ++ (id_there e.frame ++ (id_there (target_of e.start_binding) ++ id_there (target_of e.end_binding))))
+    ++ (id_there e.frame ++ (id_there (target_of e.start_binding)
+    ++ id_there (target_of e.end_binding))))
 
 -- the row of an id that an element names, and the rows of all of them
 abbrev pub row_of : ElementValue → List ℕ → LinkRow
@@ -59,7 +61,8 @@ pub record LinkRows : Type 0 where
 abbrev pub rows_at : List (List ℕ) → List (List ℕ) → List LinkRow
 rows_at [] namers = []
 rows_at (named ∷ nameds) [] = []
-rows_at (named ∷ nameds) (namer ∷ namers) = record { named = named; namer = namer } ∷ rows_at nameds namers
+rows_at (named ∷ nameds) (namer ∷ namers) =
+    record { named = named; namer = namer } ∷ rows_at nameds namers
 
 -- how many more rows fit in so much room for both, of which so much is taken
 abbrev pub room_in : ℕ → ℕ → ℕ → ℕ
@@ -74,17 +77,19 @@ pub record AreRows (named namers : List (List ℕ)) : Type 0 where
 pub record IsGapFor (rows : List LinkRow) (row : LinkRow) (i : ℕ) : Type 0 where
   pub in_range : i ≤ length rows
   pub before : (k : ℕ) (d : LinkRow) → k < i → is_earlier (slice_index_or rows k d) row ≡ true
-  pub behind : (k : ℕ) (d : LinkRow) → i ≤ k → k < length rows → is_earlier row (slice_index_or rows k d) ≡ true
+  pub behind : (k : ℕ) (d : LinkRow) → i ≤ k → k < length rows
+      → is_earlier row (slice_index_or rows k d) ≡ true
 
 -- the row at an index is this one
 abbrev pub IsRowAt : List LinkRow → LinkRow → ℕ → Type 0
 IsRowAt rows row i = slice_get rows i ≡ Some row
 
--- the ids from the one place on and before the other are those that are this one: lesser ones come before, greater ones
--- after them
+-- the ids from the one place on and before the other are those that are this one: lesser ones come
+-- before, greater ones after them
 pub record AreEndsOf (ids : List (List ℕ)) (id : List ℕ) (start end' : ℕ) : Type 0 where
   pub ordered : start ≤ end'
   pub within : end' ≤ length ids
   pub less : (k : ℕ) (d : List ℕ) → k < start → bytes_less (slice_index_or ids k d) id ≡ true
   pub same : (k : ℕ) (d : List ℕ) → start ≤ k → k < end' → slice_index_or ids k d ≡ id
-  pub greater : (k : ℕ) (d : List ℕ) → end' ≤ k → k < length ids → bytes_less id (slice_index_or ids k d) ≡ true
+  pub greater : (k : ℕ) (d : List ℕ) → end' ≤ k → k < length ids
+      → bytes_less id (slice_index_or ids k d) ≡ true

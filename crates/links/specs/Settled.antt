@@ -1,4 +1,5 @@
--- What holds of a list whose links are settled, and what settling leaves as it is. This project's own.
+-- What holds of a list whose links are settled, and what settling leaves as it is. This project's
+-- own.
 use Rattle.std.specs.Prelude.{◌≡◌, ◌≤◌, ◌==◌, List, [], Bool, true, false, not, ◌||◌, Some, None, is_some, Contains, IfSome, filter, length}
 use Rattle.elem.specs.declared.parts.BoundRef.{BoundRef}
 use Rattle.elem.specs.declared.parts.Binding.{Binding}
@@ -34,20 +35,22 @@ NameTargets list =
     → IfSome e.start_binding (λ (binding : Binding). names_target list (Some binding.target) ≡ true)
     × IfSome e.end_binding (λ (binding : Binding). names_target list (Some binding.target) ≡ true)
 
--- the element without what settling changes: its listing, its container and the bindings of its ends
+-- the element without what settling changes: its listing, its container and the bindings of its
+-- ends
 abbrev pub unlinked : ElementValue → ElementValue
 unlinked e = record e { bound = []; container = None; start_binding = None; end_binding = None }
 
 -- whether an element names another one or lists one
 abbrev pub is_linked : ElementValue → Bool
-is_linked e = not (length e.bound == 0) || (is_some e.container || (is_some e.start_binding || is_some e.end_binding))
+is_linked e = not (length e.bound == 0)
+    || (is_some e.container || (is_some e.start_binding || is_some e.end_binding))
 
 -- the elements with their texts settled and then their arrows
 abbrev pub settled_links : List ElementValue → List ElementValue
 settled_links list = settled_arrows (settled_texts list)
 
--- the element without what settling doesn't look at: all but its id, its kind, its listing, its container and its
--- bindings
+-- the element without what settling doesn't look at: all but its id, its kind, its listing, its
+-- container and its bindings
 abbrev pub unplaced : ElementValue → ElementValue
 unplaced e = record e {
   version = 0;

@@ -10,7 +10,8 @@ abbrev pub names_id : List ℕ → ElementValue → Bool
 names_id id e = (is_id id e.container || is_id id e.frame) ||
     (end_names id e.start_binding || end_names id e.end_binding)
 
--- whether an element links to this id: its container or one of its ends names it, whatever its frame
+-- whether an element links to this id: its container or one of its ends names it, whatever its
+-- frame
 abbrev pub links_to : List ℕ → ElementValue → Bool
 links_to id e = is_id id e.container || (end_names id e.start_binding || end_names id e.end_binding)
 
@@ -18,7 +19,8 @@ links_to id e = is_id id e.container || (end_names id e.start_binding || end_nam
 abbrev pub is_one_step : ElementValue → ElementValue → Bool
 is_one_step e other = links_to other.id e || links_to e.id other
 
--- whether an element is of this id, or at most so many steps of links from the element of the list that is
+-- whether an element is of this id, or at most so many steps of links from the element of the list
+-- that is
 unfoldable pub is_within : ℕ → List ElementValue → List ℕ → ElementValue → Bool
 is_within zero list id e = has_id id e
 is_within (suc n) list id e = is_within n list id e || list_any

@@ -1,5 +1,5 @@
--- How the code keeps who names whom: rows of an id and an element, in the order of the ids and, for one id, of the
--- list. This project's own.
+-- How the code keeps who names whom: rows of an id and an element, in the order of the ids and, for
+-- one id, of the list. This project's own.
 use Rattle.std.specs.Prelude.{◌≡◌, ℕ, List, [], ◌∷◌, ◌++◌, Bool, None, filter, map, bytes_eq, if◌then◌else◌}
 use Rattle.std.specs.List.Sorted.{IsSortedBy}
 use Rattle.frac_keys.specs.Keys.{bytes_less}
@@ -30,11 +30,14 @@ abbrev pub elements_under : List ℕ → List Row → List ElementValue
 elements_under key rows = map row_element (filter (is_under key) rows)
 
 -- The new rows have one more element, under each id that it names.
-pub record Adds (names : List ℕ → ElementValue → Bool) (e : ElementValue) (old new : List Row) : Type 0 where
-  pub each : (key : List ℕ) → elements_under key new ≡ elements_under key old ++ (if names key e then e ∷ [] else [])
+pub record Adds (names : List ℕ → ElementValue → Bool) (e : ElementValue) (old new : List Row) :
+    Type 0 where
+  pub each : (key : List ℕ) → elements_under key new ≡ elements_under key old
+      ++ (if names key e then e ∷ [] else [])
 
 -- These rows have under each id the elements of the list that name it, in the list's order.
-pub record IsTable (names : List ℕ → ElementValue → Bool) (list : List ElementValue) (rows : List Row) : Type 0 where
+pub record IsTable (names : List ℕ → ElementValue → Bool) (list : List ElementValue)
+    (rows : List Row) : Type 0 where
   pub ordered : IsSortedBy row_less rows
   pub found : (key : List ℕ) → elements_under key rows ≡ filter (names key) list
 

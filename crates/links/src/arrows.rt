@@ -99,7 +99,8 @@ impl<'a> Names<'a> {
         requires seen { AreSeen listing.old.entries.items listing.old.arrows listing.old.texts }
         ensures entries { OnOk result (listing.new.entries.items
             ≡ first_entries (filter (words.is_true_entry self.now e.now) e.now.bound)) }
-        ensures seen { OnOk result (AreSeen listing.new.entries.items listing.new.arrows listing.new.texts) }
+        ensures seen { OnOk result (AreSeen listing.new.entries.items listing.new.arrows
+            listing.new.texts) }
     {
         for entry in bound_of(e).as_slice() {
             if self.is_true_entry(e, text, entry) {
@@ -120,7 +121,8 @@ impl<'a> Names<'a> {
         requires seen { AreSeen listing.old.entries.items listing.old.arrows listing.old.texts }
         ensures entries { OnOk result (listing.new.entries.items
             ≡ with_entries listing.old.entries.items (words.arrow_entries self.now e.now)) }
-        ensures seen { OnOk result (AreSeen listing.new.entries.items listing.new.arrows listing.new.texts) }
+        ensures seen { OnOk result (AreSeen listing.new.entries.items listing.new.arrows
+            listing.new.texts) }
     {
         if is_target(e) {
             for row in rows_under(ends, id_of(e)) {
@@ -130,7 +132,8 @@ impl<'a> Names<'a> {
         Ok(())
     }
 
-    /// Whether an entry is true: of an arrow of the list that is bound to the element, or of its text.
+    /// Whether an entry is true: of an arrow of the list that is bound to the element, or of its
+    /// text.
     fn is_true_entry(&self, e: &Element, text: Option<&Text>, entry: &BoundRef) -> bool
         requires { option_copied text ≡ text_of self.now e.now }
         ensures { result ≡ words.is_true_entry self.now e.now entry.now }

@@ -1,4 +1,5 @@
-//! Texts in containers and bound arrows: the links between the elements of a board, settled so that they agree.
+//! Texts in containers and bound arrows: the links between the elements of a board, settled so that
+//! they agree.
 #![tactic(auto)]
 
 mod arrows;

@@ -11,8 +11,8 @@ use json_text::Text;
 use std::alloc::{AllocError, Global};
 use std::marker::Model;
 
-/// Rows of who names whom, each once, in the order of the named ids and then of the namers. Contracts also see how many
-/// more rows it has room for.
+/// Rows of who names whom, each once, in the order of the named ids and then of the namers.
+/// Contracts also see how many more rows it has room for.
 ///
 /// The named ids and the namers stand in two arrays, so that the namers of an id are a part of one.
 pub struct LinkTable {
@@ -65,8 +65,8 @@ impl LinkTable {
         self.namers.reserve(n)
     }
 
-    /// Takes out every row with this namer, and puts the given rows in. It takes no memory, and goes over all rows;
-    /// where the old rows of the namer are known, `replace` finds each.
+    /// Takes out every row with this namer, and puts the given rows in. It takes no memory, and
+    /// goes over all rows; where the old rows of the namer are known, `replace` finds each.
     pub fn change(&mut self, id: &Text, rows: List<LinkRow>)
         requires { length rows ≤ self.old.spare }
         ensures rows { (row : LinkRow) → has_row self.new.rows row
@@ -138,7 +138,8 @@ impl LinkTable {
     /// Puts these rows in.
     fn put_in_all(&mut self, rows: List<LinkRow>)
         requires { length rows ≤ self.old.spare }
-        ensures rows { (row : LinkRow) → has_row self.new.rows row ≡ (has_row rows row || has_row self.old.rows row) }
+        ensures rows { (row : LinkRow) → has_row self.new.rows row
+            ≡ (has_row rows row || has_row self.old.rows row) }
         ensures spare { self.old.spare ≤ self.new.spare + length rows }
     {
         for row in rows.into_vec() {

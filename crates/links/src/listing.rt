@@ -63,7 +63,8 @@ fn see(seen: &mut BTreeSet<Text>, id: &Text) -> Result<bool, AllocError>
 
 /// Adds an entry.
 fn push(entries: &mut Vec<BoundRef>, id: &Text, role: Role) -> Result<(), AllocError>
-    ensures { OnOk result (entries.new.items ≡ entries.old.items ++ record { id = id.now; role = role } ∷ []) }
+    ensures { OnOk result (entries.new.items ≡ entries.old.items
+        ++ record { id = id.now; role = role } ∷ []) }
 {
     let id = id.try_clone()?;
     entries.push(BoundRef { id, role })?;

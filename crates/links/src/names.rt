@@ -109,7 +109,8 @@ pub(crate) fn add_under<'a>(
     key: Option<&'a Text>,
     element: &'a Element,
 ) -> Result<(), AllocError>
-    ensures { OnOk result (Adds (λ id _. words.is_id id (option_copied key.entry)) element.now rows.old.items
+    ensures { OnOk result (Adds (λ id _. words.is_id id (option_copied key.entry)) element.now
+        rows.old.items
         rows.new.items) }
 {
     if let Some(key) = key {

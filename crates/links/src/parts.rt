@@ -38,8 +38,8 @@ pub(crate) fn bound_of(e: &Element) -> &List<BoundRef>
     &e.bound
 }
 
-/// Whether an element may be the container of a text: a rectangle, a diamond, an ellipse or an arrow. It takes no
-/// memory.
+/// Whether an element may be the container of a text: a rectangle, a diamond, an ellipse or an
+/// arrow. It takes no memory.
 pub fn can_hold_text(e: &Element) -> bool
     ensures { result ≡ names.can_hold_text e.now.kind }
 {
@@ -63,8 +63,8 @@ pub(crate) fn is_arrow(e: &Element) -> bool
     matches!(e.kind, Kind::Arrow)
 }
 
-/// Whether an arrow may be bound to an element: it is of a kind that may be bound to, and has no container. It takes no
-/// memory.
+/// Whether an arrow may be bound to an element: it is of a kind that may be bound to, and has no
+/// container. It takes no memory.
 pub fn is_target(e: &Element) -> bool
     ensures { result ≡ names.is_target e.now }
 {
@@ -106,8 +106,8 @@ pub(crate) fn has_end_at(id: &Text, e: &Element) -> bool
     is_arrow(e) && (end_names(id, &e.start_binding) || end_names(id, &e.end_binding))
 }
 
-/// Whether an element links to this id: its container or one of its ends names it, whatever its frame. It takes no
-/// memory.
+/// Whether an element links to this id: its container or one of its ends names it, whatever its
+/// frame. It takes no memory.
 pub fn links_to(id: &Text, e: &Element) -> bool
     ensures { result ≡ steps.links_to id.now e.now }
 {

@@ -21,21 +21,23 @@ pub struct LinkRow {
     pub namer: Text,
 }
 
-/// A row for each id that the container, the frame or an end of an element names, each once. Fails only for want of
-/// memory.
+/// A row for each id that the container, the frame or an end of an element names, each once. Fails
+/// only for want of memory.
 pub fn rows_of(alloc: Global, e: &Element) -> Result<List<LinkRow>, AllocError>
     ensures exact { IfOk result (λ rows. rows ≡ words.rows_of e.now) }
-    ensures named { IfOk result (λ rows. (id : Items ℕ) → list_any (is_for id) rows ≡ names_id id e.now) }
+    ensures named { IfOk result (λ rows. (id : Items ℕ)
+        → list_any (is_for id) rows ≡ names_id id e.now) }
     ensures distinct { IfOk result (λ rows. IsDistinct same_row rows) }
 {
     let named = named_ids(alloc, e)?;
     Ok(List::from_vec(rows_for(alloc, named, e)?))
 }
 
-/// The ids that an element links to, its container's and those that its ends are bound to: one id as often as it is
-/// named. It is `rows_of` without the frame. Fails only for want of memory.
+/// The ids that an element links to, its container's and those that its ends are bound to: one id
+/// as often as it is named. It is `rows_of` without the frame. Fails only for want of memory.
 pub fn linked_ids(alloc: Global, e: &Element) -> Result<Vec<Text>, AllocError>
-    ensures { IfOk result (λ ids. (id : Items ℕ) → list_any (bytes_eq id) ids.items ≡ links_to id e.now) }
+    ensures { IfOk result (λ ids. (id : Items ℕ)
+        → list_any (bytes_eq id) ids.items ≡ links_to id e.now) }
 {
     let mut ids = Vec::new(alloc);
     let (start, end) = ends_of(e);

@@ -15,8 +15,8 @@ use board_base::{List, change_each};
 use elem::Element;
 use std::alloc::{AllocError, Global};
 
-/// The list with the containers of its texts settled: a text keeps its container exactly if it is the container's text.
-/// The list's order is that of the scene. Fails only for want of memory.
+/// The list with the containers of its texts settled: a text keeps its container exactly if it is
+/// the container's text. The list's order is that of the scene. Fails only for want of memory.
 pub fn settle_texts(alloc: Global, list: List<Element>) -> Result<List<Element>, AllocError>
     requires { HaveDistinctIds list }
     ensures exact { IfOk result (λ new. new ≡ settled_texts list) }
@@ -52,7 +52,8 @@ fn name_containers(list: &[Element]) -> bool
 
 /// For each element, whether it keeps its container as a text.
 fn kept_containers(alloc: Global, list: &Vec<Element>) -> Result<Vec<bool>, AllocError>
-    ensures { IfOk result (λ kept. kept.items ≡ map (texts.keeps_container list.now.items) list.now.items) }
+    ensures { IfOk result (λ kept. kept.items ≡ map (texts.keeps_container list.now.items)
+        list.now.items) }
 {
     Names::of(alloc, list)?.kept_containers(alloc)
 }
@@ -66,14 +67,15 @@ fn set_container(e: &mut Element, keeps: bool)
     }
 }
 
-/// The list with the ends of its arrows and the listings of its elements settled. The list's order is that of the
-/// scene. Fails only for want of memory.
+/// The list with the ends of its arrows and the listings of its elements settled. The list's order
+/// is that of the scene. Fails only for want of memory.
 pub fn settle_arrows(alloc: Global, list: List<Element>) -> Result<List<Element>, AllocError>
     requires distinct { HaveDistinctIds list }
     requires texts { settled_texts list ≡ list }
     ensures exact { IfOk result (λ new. new ≡ settled_arrows list) }
 
-    // An arrow names an element exactly if that element lists it, a text a container exactly if the container lists it.
+    // An arrow names an element exactly if that element lists it, a text a container exactly if the
+    // container lists it.
     ensures arrows { IfOk result ArrowsAgree }
     ensures texts { IfOk result TextsAgree }
     ensures one_text { IfOk result HaveOneText }
@@ -122,7 +124,8 @@ fn is_linked(e: &Element) -> bool
 
 /// The links of each element.
 fn links(alloc: Global, list: &Vec<Element>) -> Result<Vec<Links>, AllocError>
-    ensures { IfOk result (λ links. links.items ≡ map (tables.links_of list.now.items) list.now.items) }
+    ensures { IfOk result (λ links. links.items ≡ map (tables.links_of list.now.items)
+        list.now.items) }
 {
     Names::of(alloc, list)?.links(alloc)
 }

@@ -49,7 +49,8 @@ fn ends_under(rows: &Vec<Row<'_>>, key: &[u8]) -> (usize, usize)
     requires { IsSortedBy row_less rows.now.items }
     ensures ordered { result.0 ≤ result.1 }
     ensures within { result.1 ≤ length rows.now.items }
-    ensures among { slice_range rows.now.items result.0 result.1 ≡ filter (is_under key.now) rows.now.items }
+    ensures among { slice_range rows.now.items result.0 result.1
+        ≡ filter (is_under key.now) rows.now.items }
 {
     let start = rows.partition_point(|row| bytes_order(row.key, key).is_lt());
     match rows.get(start) {

@@ -16,8 +16,8 @@ use json_text::Text;
 use std::alloc::{AllocError, Global};
 
 impl<'a> Names<'a> {
-    /// The id of the text of a container: of the first text in its own listing that names it, else of the first text of
-    /// the list that names it.
+    /// The id of the text of a container: of the first text in its own listing that names it, else
+    /// of the first text of the list that names it.
     pub(crate) fn text_of(&self, container: &'a Element) -> Option<&'a Text>
         ensures { option_copied result ≡ words.text_of self.now container.now }
     {
@@ -42,7 +42,8 @@ impl<'a> Names<'a> {
         None
     }
 
-    /// Whether an entry of a container's listing is for a text of the list that names the container.
+    /// Whether an entry of a container's listing is for a text of the list that names the
+    /// container.
     fn is_text_entry(&self, container: &Element, entry: &BoundRef) -> bool
         ensures { result ≡ words.is_text_entry self.now container.now entry.now }
     {

@@ -12,12 +12,15 @@ at-first : (talk : Option Held) → talk ≡ None → TalkStandsFor talk None
 at-first talk none = subst (λ (t : Option Held). TalkStandsFor t None) (sym none) tt
 
 -- what was answered from the first line on
-pub talked : (talk after : Option Held) (old new : SinkEnd) (lines : List (List ℕ)) → talk ≡ None → WereAnswered Answers memory_text (TalkStandsFor talk) (TalkStandsFor after) old new lines → HasTalked old new lines
+pub talked : (talk after : Option Held) (old new : SinkEnd) (lines : List (List ℕ)) → talk ≡ None
+    → WereAnswered Answers memory_text (TalkStandsFor talk) (TalkStandsFor after) old new lines
+    → HasTalked old new lines
 talked talk after old new lines none were =
     let there = were.lead None (at-first talk none) in
     record { texts = were.texts; taken = were.taken; told = (there.0, there.2) }
 
-pub talked-in-part : (talk after : Option Held) (old new : SinkEnd) (lines : List (List ℕ)) → talk ≡ None → WereAnsweredInPart Answers memory_text (TalkStandsFor talk) (TalkStandsFor after) old new lines
+pub talked-in-part : (talk after : Option Held) (old new : SinkEnd) (lines : List (List ℕ)) → talk ≡ None
+    → WereAnsweredInPart Answers memory_text (TalkStandsFor talk) (TalkStandsFor after) old new lines
     → HasTalkedInPart old new lines
 talked-in-part talk after old new lines none part =
     let there = part.lead None (at-first talk none) in
@@ -35,7 +38,9 @@ talked-in-part talk after old new lines none part =
     }
 
 -- ---- where no answer tells of wanting memory
-all-answered : (first last : Option Living) (lines texts : List (List ℕ)) → AllByRecursion (λ text. text ≢ memory_text) texts → AreAnswered Answers memory_text first lines texts last → AnswersAll first lines texts last
+all-answered : (first last : Option Living) (lines texts : List (List ℕ))
+    → AllByRecursion (λ text. text ≢ memory_text) texts → AreAnswered Answers memory_text first lines texts last
+    → AnswersAll first lines texts last
 all-answered first last [] [] none are = (refl, are)
 all-answered first last [] (text ∷ texts) none are = absurd are
 all-answered first last (line ∷ lines) [] none are = absurd are
@@ -44,5 +49,6 @@ all-answered first last (line ∷ lines) (text ∷ texts) none (middle, is, rest
   | inr lost ↦ absurd (none.0 lost.0)
 ]
 
-pub told-answered : (lines texts : List (List ℕ)) → AreTold lines texts → AllByRecursion (λ text. text ≢ memory_text) texts → (after : Option Living) × AnswersAll None lines texts after
+pub told-answered : (lines texts : List (List ℕ)) → AreTold lines texts
+    → AllByRecursion (λ text. text ≢ memory_text) texts → (after : Option Living) × AnswersAll None lines texts after
 told-answered lines texts told none = (told.0, all-answered None told.0 lines texts none told.1)

@@ -22,11 +22,20 @@ use Rattle.live.specs.Living.{Living, Reply, IsReply, of_read}
 use Rattle.live.specs.Talks.{Answers, IsLineFault, IsReadReply, LineReads, faulty, opened_by, opening_text, says}
 
 -- one value stands alone in the bytes, or they have a first fault
-alone-or-fault : (bytes : List ℕ) → ((text : List ℕ) × StandsAlone bytes text) ⊎ ((fault : JsonFault) × IsLineFault bytes fault)
+alone-or-fault : (bytes : List ℕ) → ((text : List ℕ) × StandsAlone bytes text)
+    ⊎ ((fault : JsonFault) × IsLineFault bytes fault)
 alone-or-fault bytes = elim (value-or-fault bytes 0 (omega arith)) [
   | inr (fault, first) ↦ inr (fault, inl first)
   | inl (text, end, within, stands) ↦ elim (cases_lt (prefix_len is_space (drop end bytes)) (length (drop end bytes))) [
-    | inr all ↦ inl (text, record { rest = drop end bytes; stands = stands; space = run-blank (drop end bytes) (omega (arith, all)) })
+    | inr all ↦ inl (
+      text,
+      record {
+        rest = drop end bytes;
+        stands = stands;
+        space =
+            run-blank (drop end bytes) (omega (arith, all));
+      },
+    )
     | inl less ↦
         let at : ℕ = end + prefix_len is_space (drop end bytes) in
         inr (
@@ -47,7 +56,8 @@ alone-or-fault bytes = elim (value-or-fault bytes 0 (omega arith)) [
   ]
 ]
 
-module _ {A : Type 0} (Says : List ℕ → Result A TextFault → Type 0) (told : (text : List ℕ) → IsCompact 128 text → (read : Result A TextFault) × Says text read) where
+module _ {A : Type 0} (Says : List ℕ → Result A TextFault → Type 0) (told : (text : List ℕ) → IsCompact 128 text
+    → (read : Result A TextFault) × Says text read) where
   reads-exist : (bytes : List ℕ) → (read : Result A TextFault) × LineReads Says bytes read
   reads-exist bytes = elim (alone-or-fault bytes) [
     | inl (text, alone) ↦ let read = told text (Value-compact alone.stands.reads) in (read.0, says text alone read.1)
@@ -74,11 +84,23 @@ module _ (exists : (text : List ℕ) → (read : Result Message MsgFault) × IsR
   read-reply-exists l (Ok line) = reply-exists l line
   read-reply-exists l (Err fault) = (_, refl)
 
-  pub answer-exists : (old : Option Living) (bytes : List ℕ) → (text : List ℕ) × (new : Option Living) × Answers old bytes text new
+  pub answer-exists : (old : Option Living) (bytes : List ℕ) → (text : List ℕ) × (new : Option Living)
+      × Answers old bytes text new
   answer-exists None bytes =
       let reads = reads-exist OpeningText opening-told bytes in
       (opening_text reads.0, opened_by reads.0, record { read = reads.0; reads = reads.1; text = refl; after = refl })
   answer-exists (Some l) bytes =
       let reads = reads-exist LineText line-told bytes in
-      let reply = read-reply-exists l reads.0 in
-      (reply.0.text, Some reply.0.after, record { read = reads.0; reads = reads.1; reply = reply.0; is = reply.1; text = refl; after = refl })
+      let reply = read-reply-exists l reads.0 in (
+        reply.0.text,
+        Some reply.0.after,
+        record {
+          read = reads.0;
+          reads = reads.1;
+          reply = reply.0;
+          is = reply.1;
+          text =
+              refl;
+          after = refl;
+        },
+      )

@@ -36,11 +36,13 @@ record Keep (made : ℕ) (es : List Event) : Type 0 where
 none-keep : (made : ℕ) → Keep made []
 none-keep made = record { places = tt; limits = tt; brings = tt; picks = tt }
 
-joined : {X : Type 0} (P : X → Type 0) (xs ys : List X) → AllByRecursion P xs → AllByRecursion P ys → AllByRecursion P (xs ++ ys)
+joined : {X : Type 0} (P : X → Type 0) (xs ys : List X) → AllByRecursion P xs → AllByRecursion P ys
+    → AllByRecursion P (xs ++ ys)
 joined P [] ys all others = others
 joined P (x ∷ xs) ys all others = (all.0, joined P xs ys all.1 others)
 
-joined-picks : (made : ℕ) (xs ys : List Event) → PickMade made xs → PickMade (made_after made xs) ys → PickMade made (xs ++ ys)
+joined-picks : (made : ℕ) (xs ys : List Event) → PickMade made xs → PickMade (made_after made xs) ys
+    → PickMade made (xs ++ ys)
 joined-picks made [] ys picks others = others
 joined-picks made (x ∷ xs) ys picks others = (picks.0, joined-picks (made + messages_of x) xs ys picks.1 others)
 
@@ -55,7 +57,8 @@ joined-keep made xs ys one two = record {
 -- ---- what a message brings
 whole-are : (elements : List ElementValue) → All IsWholeElement elements → AreElements elements
 whole-are elements whole =
-    All-weaker IsWholeElement (λ e. IsElement e × HasValidTexts e) (λ e is. let sound = IsSound-read (element_text e) e is in (sound.is_element, sound.written)) elements whole
+    All-weaker IsWholeElement (λ e. IsElement e × HasValidTexts e) (λ e is. let sound =
+    IsSound-read (element_text e) e is in (sound.is_element, sound.written)) elements whole
 
 brought-are : (message : Message) → IsWholeMessage message → AreElements (brought_by message)
 brought-are (messages.Init elements) whole = whole-are elements whole
@@ -63,8 +66,10 @@ brought-are (messages.Update elements) whole = whole-are elements whole
 brought-are (messages.Presence value) whole = All-nil (λ e. IsElement e × HasValidTexts e)
 
 -- ---- a line
-module _ (number : ℕ) (few : number < 64) (whole : (text : List ℕ) (message : Message) → IsReadAs text (Ok message) → IsWholeMessage message) where
-  taking-keep : (made : ℕ) (elements : List ElementValue) → AreElements elements → Keep made (taking_events number made elements)
+module _ (number : ℕ) (few : number < 64) (whole : (text : List ℕ) (message : Message) → IsReadAs text (Ok message)
+    → IsWholeMessage message) where
+  taking-keep : (made : ℕ) (elements : List ElementValue) → AreElements elements
+      → Keep made (taking_events number made elements)
   taking-keep made elements are = record {
     places = (tt, (few, tt));
     limits = (tt, (tt, tt));
@@ -72,26 +77,56 @@ module _ (number : ℕ) (few : number < 64) (whole : (text : List ℕ) (message 
     picks = (tt, ((omega arith, tt), tt));
   }
 
-  message-keep : (made : ℕ) (text : List ℕ) (read : Result Message MsgFault) → IsReadAs text read → Keep made (message_events number made read)
-  message-keep made text (Ok message) is = taking-keep made (brought_by message) (brought-are message (whole text message is))
+  message-keep : (made : ℕ) (text : List ℕ) (read : Result Message MsgFault) → IsReadAs text read
+      → Keep made (message_events number made read)
+  message-keep made text (Ok message) is =
+      taking-keep made (brought_by message) (brought-are message (whole text message is))
   message-keep made text (Err fault) is = none-keep made
 
-  line-keep : (made : ℕ) (line : Line) (es : List Event) → IsLineWithinLimits line → LineBringsElements line → AreEventsOf number made line es → Keep made es
-  line-keep made (lines.Change time capture command) es within brings is = subst (Keep made) (sym is) (record { places = (few, tt); limits = (within, tt); brings = (brings, tt); picks = (tt, tt) })
-  line-keep made (lines.Undo time) es within brings is = subst (Keep made) (sym is) (record { places = (few, tt); limits = (within, tt); brings = (tt, tt); picks = (tt, tt) })
-  line-keep made (lines.Redo time) es within brings is = subst (Keep made) (sym is) (record { places = (few, tt); limits = (within, tt); brings = (tt, tt); picks = (tt, tt) })
-  line-keep made (lines.Take elements) es within brings is = subst (Keep made) (sym is) (taking-keep made elements brings)
-  line-keep made (lines.Receive text) es within brings (read, reads, is) = subst (Keep made) (sym is) (message-keep made text read reads)
-  line-keep made (lines.Hold id) es within brings is = subst (Keep made) (sym is) (record { places = (few, tt); limits = (tt, tt); brings = (tt, tt); picks = (tt, tt) })
-  line-keep made (lines.Release id) es within brings is = subst (Keep made) (sym is) (record { places = (few, tt); limits = (tt, tt); brings = (tt, tt); picks = (tt, tt) })
+  line-keep : (made : ℕ) (line : Line) (es : List Event) → IsLineWithinLimits line → LineBringsElements line
+      → AreEventsOf number made line es → Keep made es
+  line-keep made (lines.Change time capture command) es within brings is =
+      subst (Keep made) (sym is) (record {
+        places = (few, tt);
+        limits = (within, tt);
+        brings = (brings, tt);
+        picks =
+            (tt, tt);
+      })
+  line-keep made (lines.Undo time) es within brings is =
+      subst (Keep made) (sym is) (record {
+        places = (few, tt);
+        limits = (within, tt);
+        brings = (tt, tt);
+        picks =
+            (tt, tt);
+      })
+  line-keep made (lines.Redo time) es within brings is =
+      subst (Keep made) (sym is) (record {
+        places = (few, tt);
+        limits = (within, tt);
+        brings = (tt, tt);
+        picks =
+            (tt, tt);
+      })
+  line-keep made (lines.Take elements) es within brings is =
+      subst (Keep made) (sym is) (taking-keep made elements brings)
+  line-keep made (lines.Receive text) es within brings (read, reads, is) =
+      subst (Keep made) (sym is) (message-keep made text read reads)
+  line-keep made (lines.Hold id) es within brings is =
+      subst (Keep made) (sym is) (record { places = (few, tt); limits = (tt, tt); brings = (tt, tt); picks = (tt, tt) })
+  line-keep made (lines.Release id) es within brings is =
+      subst (Keep made) (sym is) (record { places = (few, tt); limits = (tt, tt); brings = (tt, tt); picks = (tt, tt) })
   line-keep made lines.Scene es within brings is = subst (Keep made) (sym is) (none-keep made)
   line-keep made lines.State es within brings is = subst (Keep made) (sym is) (none-keep made)
   line-keep made (lines.Stored id) es within brings is = subst (Keep made) (sym is) (none-keep made)
   line-keep made lines.Lengths es within brings is = subst (Keep made) (sym is) (none-keep made)
   line-keep made lines.Pending es within brings is = subst (Keep made) (sym is) (none-keep made)
 
-  bytes-keep : (made : ℕ) (bytes : List ℕ) (read : Result Line TextFault) (es : List Event) → LineReads LineText bytes read → AreReadEvents number made read es → Keep made es
-  bytes-keep made bytes (Ok line) es (says text alone is) are = line-keep made line es (line-within text line is) (line-brings text line is) are
+  bytes-keep : (made : ℕ) (bytes : List ℕ) (read : Result Line TextFault) (es : List Event)
+      → LineReads LineText bytes read → AreReadEvents number made read es → Keep made es
+  bytes-keep made bytes (Ok line) es (says text alone is) are =
+      line-keep made line es (line-within text line is) (line-brings text line is) are
   bytes-keep made bytes (Ok line) es (faulty fault is e) are = absurd (apart line (Json fault) e)
   bytes-keep made bytes (Err fault) es reads are = subst (Keep made) (sym are) (none-keep made)
 
@@ -99,10 +134,13 @@ module _ (number : ℕ) (few : number < 64) (whole : (text : List ℕ) (message 
   lines-keep : (made : ℕ) (lines : List (List ℕ)) (es : List Event) → SayEvents number made lines es → Keep made es
   lines-keep made [] es say = subst (Keep made) (sym say) (none-keep made)
   lines-keep made (bytes ∷ lines) es (read, first, others, reads, are, is, more) =
-      subst (Keep made) (sym is) (joined-keep made first others (bytes-keep made bytes read first reads are) (lines-keep (made_after made first) lines others more))
+      subst (Keep made) (sym is) (joined-keep made first others (bytes-keep made bytes read first reads are)
+      (lines-keep (made_after made first) lines others more))
 
-pub keeps-session : (opening : Opening) → IsReplicaOpening opening → ((text : List ℕ) (message : Message) → IsReadAs text (Ok message) → IsWholeMessage message)
-    → (lines : List (List ℕ)) (es : List Event) → SayEvents opening.number 0 lines es → length es ≤ most_events → IsSession (session_of opening es)
+pub keeps-session : (opening : Opening) → IsReplicaOpening opening
+    → ((text : List ℕ) (message : Message) → IsReadAs text (Ok message) → IsWholeMessage message)
+    → (lines : List (List ℕ)) (es : List Event) → SayEvents opening.number 0 lines es → length es ≤ most_events
+    → IsSession (session_of opening es)
 keeps-session opening is whole lines es say few =
     let keep = lines-keep opening.number is.number whole 0 lines es say in
     record {

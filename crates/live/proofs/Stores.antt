@@ -29,7 +29,8 @@ LifeStores l = StoresTaken l.seat
 abbrev ReplyStores : Reply → Type 0
 ReplyStores reply = LifeStores reply.after
 
-act-stores : (text : List ℕ) (act : Act) (l : Living) → act.state.stored ≡ taken_all (given_of act.outcome) l.seat.state.stored → LifeStores l → ReplyStores (of_act text act l)
+act-stores : (text : List ℕ) (act : Act) (l : Living) → act.state.stored
+    ≡ taken_all (given_of act.outcome) l.seat.state.stored → LifeStores l → ReplyStores (of_act text act l)
 act-stores text act l is stores = acted-stores l.seat act is stores
 
 taking-stores : (elements : List ElementValue) (l : Living) → LifeStores l → ReplyStores (of_taking elements l)
@@ -41,18 +42,23 @@ read-stores (Err fault) l stores = stores
 
 turn-stores : (direction : Direction) (time : ℕ) (l : Living) → LifeStores l → ReplyStores (of_turn direction time l)
 turn-stores direction time l stores =
-    act-stores (step_text (turn_on direction time (nonce_of l) l.seat.state)) (turn_by direction time (nonce_of l) l.seat.state) l (turn_by-stored direction time (nonce_of l) l.seat.state) stores
+    act-stores (step_text (turn_on direction time (nonce_of l) l.seat.state))
+    (turn_by direction time (nonce_of l) l.seat.state) l (turn_by-stored direction time (nonce_of l) l.seat.state)
+    stores
 
 pub reply-stores : (l : Living) (line : Line) (reply : Reply) → IsReply l line reply → LifeStores l → ReplyStores reply
 reply-stores l (lines.Change time capture command) reply is stores =
     subst ReplyStores (sym is)
-    (act-stores (command_text (outcome_on command time (nonce_of l) l.seat.state)) (change_on command capture time (nonce_of l) l.seat.state) l (change-stored command capture time (nonce_of l) l.seat.state) stores)
+    (act-stores (command_text (outcome_on command time (nonce_of l) l.seat.state))
+    (change_on command capture time (nonce_of l) l.seat.state) l
+    (change-stored command capture time (nonce_of l) l.seat.state) stores)
 reply-stores l (lines.Undo time) reply is stores =
     subst ReplyStores (sym is) (turn-stores directions.Undo time l stores)
 reply-stores l (lines.Redo time) reply is stores =
     subst ReplyStores (sym is) (turn-stores directions.Redo time l stores)
 reply-stores l (lines.Take elements) reply is stores = subst ReplyStores (sym is) (taking-stores elements l stores)
-reply-stores l (lines.Receive text) reply (read, reads, is) stores = subst ReplyStores (sym is) (read-stores read l stores)
+reply-stores l (lines.Receive text) reply (read, reads, is) stores =
+    subst ReplyStores (sym is) (read-stores read l stores)
 reply-stores l (lines.Hold id) reply is stores = subst ReplyStores (sym is) stores
 reply-stores l (lines.Release id) reply is stores = subst ReplyStores (sym is) stores
 reply-stores l lines.Scene reply is stores = subst ReplyStores (sym is) stores
@@ -61,7 +67,8 @@ reply-stores l (lines.Stored id) reply is stores = subst ReplyStores (sym is) st
 reply-stores l lines.Lengths reply is stores = subst ReplyStores (sym is) stores
 reply-stores l lines.Pending reply is stores = subst ReplyStores (sym is) stores
 
-read-reply-stores : (l : Living) (read : Result Line TextFault) (reply : Reply) → IsReadReply l read reply → LifeStores l → ReplyStores reply
+read-reply-stores : (l : Living) (read : Result Line TextFault) (reply : Reply) → IsReadReply l read reply
+    → LifeStores l → ReplyStores reply
 read-reply-stores l (Ok line) reply is stores = reply-stores l line reply is stores
 read-reply-stores l (Err fault) reply is stores = subst ReplyStores (sym is) stores
 
@@ -70,19 +77,23 @@ opened-stores : (read : Result Opening TextFault) → IfSome (opened_by read) Li
 opened-stores (Ok opening) = delivered-stores (opening_elements (session_of opening [])) fresh fresh-stores
 opened-stores (Err fault) = tt
 
-line-stores : (old : Option Living) (bytes text : List ℕ) (new : Option Living) → Answers old bytes text new → IfSome old LifeStores → IfSome new LifeStores
-line-stores None bytes text new opens stores = subst (λ l. IfSome l LifeStores) (sym opens.after) (opened-stores opens.read)
+line-stores : (old : Option Living) (bytes text : List ℕ) (new : Option Living) → Answers old bytes text new
+    → IfSome old LifeStores → IfSome new LifeStores
+line-stores None bytes text new opens stores =
+    subst (λ l. IfSome l LifeStores) (sym opens.after) (opened-stores opens.read)
 line-stores (Some l) bytes text new goes stores =
     subst (λ m. IfSome m LifeStores) (sym goes.after) (read-reply-stores l goes.read goes.reply goes.is stores)
 
-pub lines-store : (old : Option Living) (lines texts : List (List ℕ)) (new : Option Living) → AnswersAll old lines texts new → IfSome old LifeStores → IfSome new LifeStores
+pub lines-store : (old : Option Living) (lines texts : List (List ℕ)) (new : Option Living)
+    → AnswersAll old lines texts new → IfSome old LifeStores → IfSome new LifeStores
 lines-store old [] texts new are stores = subst (λ l. IfSome l LifeStores) (sym are.1) stores
 lines-store old (line ∷ lines) [] new are stores = absurd are
 lines-store old (line ∷ lines) (text ∷ texts) new (middle, one, more) stores =
     lines-store middle lines texts new more (line-stores old line text middle one stores)
 
 -- ---- two replicas
-module _ (lines texts lines' texts' : List (List ℕ)) (l other : Living) (one : AnswersAll None lines texts (Some l)) (two : AnswersAll None lines' texts' (Some other))
+module _ (lines texts lines' texts' : List (List ℕ)) (l other : Living) (one : AnswersAll None lines texts (Some l))
+    (two : AnswersAll None lines' texts' (Some other))
     (are : AreElements l.seat.taken) (same : HaveSameUpdates l.seat.taken other.seat.taken) where
   pub store-same : l.seat.state.stored ≡ other.seat.state.stored
   store-same =

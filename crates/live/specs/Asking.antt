@@ -1,4 +1,5 @@
--- A whole talk: each line of an input is answered, as long as there is memory for it. This project's own.
+-- A whole talk: each line of an input is answered, as long as there is memory for it. This
+-- project's own.
 use Rattle.std.specs.Prelude.{◌≡◌, ℕ, ◌≤◌, List, ◌∷◌, [], ◌++◌, length, take, codes, Option, None}
 use Rattle.board_ends.specs.Ends.{SinkEnd, Took}
 use Rattle.intake.specs.Answering.{AreAnswered, output_line, output_of}
@@ -11,7 +12,8 @@ memory_text = codes "{\"memory\":true}"
 
 -- Before the first of these lines nothing is opened, and they are answered with these texts.
 abbrev pub AreTold : List (List ℕ) → List (List ℕ) → Type 0
-AreTold lines texts = (after : Option Living) × AreAnswered Answers memory_text None lines texts after
+AreTold lines texts =
+    (after : Option Living) × AreAnswered Answers memory_text None lines texts after
 
 -- A sink took the answers to the lines, each with a line feed behind it.
 pub record HasTalked (old new : SinkEnd) (lines : List (List ℕ)) : Type 0 where
@@ -19,7 +21,8 @@ pub record HasTalked (old new : SinkEnd) (lines : List (List ℕ)) : Type 0 wher
   pub taken : Took old new (output_of texts)
   pub told : AreTold lines texts
 
--- A sink took the answers to a first part of the lines, and of the last of these answers a first part.
+-- A sink took the answers to a first part of the lines, and of the last of these answers a first
+-- part.
 pub record HasTalkedInPart (old new : SinkEnd) (lines : List (List ℕ)) : Type 0 where
   pub front : List (List ℕ)
   pub line : List ℕ

@@ -1,5 +1,5 @@
--- A replica in a program of its own: what it is opened with, what each line makes of it, and what a line is answered
--- with. This project's own.
+-- A replica in a program of its own: what it is opened with, what each line makes of it, and what a
+-- line is answered with. This project's own.
 use Rattle.std.specs.Prelude.{◌≡◌, ℕ, ◌+◌, ◌*◌, List, [], ◌∷◌, Bool, true, false, Option, Some, None, Result, Ok, Err, length, codes, decimal}
 use Rattle.std.specs.Option.{option_map_or}
 use Rattle.rand_pcg.specs.Lcg.{Lcg}
@@ -38,17 +38,19 @@ use Rattle.session.specs.Reports.{shown_at}
 use Rattle.session.specs.Texts.{refusal_members}
 use Rattle.session.specs.Worlds.{Act, Seat, acted, change_on, delivered, fresh, head_of, holding, opening_elements, turn_by, with_id, without_id}
 
--- A replica: its number, what its nonces are drawn from, the head of the scene that it was opened with, and its seat,
--- as a replica of a session has one.
+-- A replica: its number, what its nonces are drawn from, the head of the scene that it was opened
+-- with, and its seat, as a replica of a session has one.
 pub record Living : Type 0 where
   pub number : ℕ
   pub generator : Lcg
   pub head : Heading
   pub seat : Seat
 
--- the session of 64 replicas with the seed and the scene of an opening, in which these events happen
+-- the session of 64 replicas with the seed and the scene of an opening, in which these events
+-- happen
 abbrev pub session_of : Opening → List Event → Session
-session_of opening events = record { replicas = 64; seed = opening.seed; scene = opening.scene; events = events }
+session_of opening events =
+    record { replicas = 64; seed = opening.seed; scene = opening.scene; events = events }
 
 -- the replica that is opened: the elements of the scene were delivered to it
 abbrev pub opened_as : Opening → Living
@@ -59,7 +61,8 @@ opened_as opening = record {
   seat = delivered (opening_elements (session_of opening [])) fresh;
 }
 
--- the nonce of the next change, undo or redo: the word, and the replica's number in the last six bits
+-- the nonce of the next change, undo or redo: the word, and the replica's number in the last six
+-- bits
 abbrev pub nonce_of : Living → ℕ
 nonce_of l = 64 * next_word l.generator + l.number
 
@@ -68,7 +71,8 @@ nonce_of l = 64 * next_word l.generator + l.number
 abbrev pub told : List ℕ → List ℕ → List ℕ
 told name value = object_text ((name, value) ∷ [])
 
--- what an opening, a fault with these words, and elements of which so many were taken are answered with
+-- what an opening, a fault with these words, and elements of which so many were taken are answered
+-- with
 abbrev pub opened_text : List ℕ
 opened_text = told (codes "replica") (codes "1")
 
@@ -78,8 +82,8 @@ fault_text words = told (codes "fault") (quote words)
 abbrev pub taken_text : ℕ → List ℕ
 taken_text count = told (codes "taken") (decimal count)
 
--- elements that change are told by the message of an update, and a refusal as a session tells it; without a cause it is
--- of nothing to undo or to redo
+-- elements that change are told by the message of an update, and a refusal as a session tells it;
+-- without a cause it is of nothing to undo or to redo
 abbrev pub update_text : List ElementValue → List ℕ
 update_text elements = message_text (messages.Update elements)
 
@@ -98,11 +102,13 @@ step_text (Some (Ok turn)) = update_text turn.given
 
 -- so many entries can be undone, and so many redone
 abbrev pub lengths_text : ℕ → ℕ → List ℕ
-lengths_text undo redo = object_text ((codes "undo", decimal undo) ∷ (codes "redo", decimal redo) ∷ [])
+lengths_text undo redo =
+    object_text ((codes "undo", decimal undo) ∷ (codes "redo", decimal redo) ∷ [])
 
 -- the stored element with this id, or null
 abbrev pub stored_text : List ℕ → State → List ℕ
-stored_text id s = told (codes "stored") (option_map_or element_text (element_of s.stored id) null_word)
+stored_text id s =
+    told (codes "stored") (option_map_or element_text (element_of s.stored id) null_word)
 
 -- whether something is pending, which is what was captured later and no step has captured since
 abbrev pub is_some : List Pair → Bool
@@ -146,7 +152,8 @@ of_turn direction time l =
 -- elements from elsewhere are taken, but for those whose ids are held
 abbrev pub of_taking : List ElementValue → Living → Reply
 of_taking elements l =
-    seated (taken_text (length (free_elements l.seat.state.held elements))) (delivered elements l.seat) l
+    seated (taken_text (length (free_elements l.seat.state.held elements)))
+    (delivered elements l.seat) l
 
 -- the elements that a message brings
 abbrev pub brought_by : Message → List ElementValue
@@ -168,11 +175,16 @@ IsReply l (lines.Take elements) reply = reply ≡ of_taking elements l
 IsReply l (lines.Receive text) reply =
     (read : Result Message MsgFault) × IsReadAs text read × (reply ≡ of_read read l)
 IsReply l (lines.Hold id) reply =
-    reply ≡ seated (told (codes "held") (truth_text true)) (holding (with_id id l.seat.state.held) l.seat) l
+    reply ≡ seated (told (codes "held") (truth_text true))
+    (holding (with_id id l.seat.state.held) l.seat) l
 IsReply l (lines.Release id) reply =
-    reply ≡ seated (told (codes "held") (truth_text false)) (holding (without_id id l.seat.state.held) l.seat) l
-IsReply l lines.Scene reply = reply ≡ unchanged (told (codes "scene") (scene_text l.head (shown_at l.seat))) l
-IsReply l lines.State reply = reply ≡ unchanged (told (codes "state") (state_text l.head l.seat.state.stored)) l
+    reply ≡ seated (told (codes "held") (truth_text false))
+    (holding (without_id id l.seat.state.held) l.seat) l
+IsReply l lines.Scene reply =
+    reply ≡ unchanged (told (codes "scene") (scene_text l.head (shown_at l.seat))) l
+IsReply l lines.State reply =
+    reply ≡ unchanged (told (codes "state") (state_text l.head l.seat.state.stored)) l
 IsReply l (lines.Stored id) reply = reply ≡ unchanged (stored_text id l.seat.state) l
-IsReply l lines.Lengths reply = reply ≡ unchanged (lengths_text (length l.seat.state.undo) (length l.seat.state.redo)) l
+IsReply l lines.Lengths reply =
+    reply ≡ unchanged (lengths_text (length l.seat.state.undo) (length l.seat.state.redo)) l
 IsReply l lines.Pending reply = reply ≡ unchanged (pending_text l.seat.state) l

@@ -22,9 +22,11 @@ use Rattle.live.specs.Talks.{LineReads}
 abbrev pub most_lines : ℕ
 most_lines = 125000
 
--- Elements from elsewhere come to a replica with this number: as a message, behind so many others, and its delivery.
+-- Elements from elsewhere come to a replica with this number: as a message, behind so many others,
+-- and its delivery.
 abbrev pub taking_events : ℕ → ℕ → List ElementValue → List Event
-taking_events number made elements = events.Update elements ∷ events.Deliver number (All made ∷ []) ∷ []
+taking_events number made elements =
+    events.Update elements ∷ events.Deliver number (All made ∷ []) ∷ []
 
 -- So does what a message brings; one with a fault brings nothing.
 abbrev pub message_events : ℕ → ℕ → Result Message MsgFault → List Event
@@ -33,7 +35,8 @@ message_events number made (Err fault) = []
 
 -- A line is these events at a replica with this number, where so many messages were made before.
 abbrev pub AreEventsOf : ℕ → ℕ → Line → List Event → Type 0
-AreEventsOf number made (lines.Change time capture command) es = es ≡ events.Change number time capture command ∷ []
+AreEventsOf number made (lines.Change time capture command) es =
+    es ≡ events.Change number time capture command ∷ []
 AreEventsOf number made (lines.Undo time) es = es ≡ events.Undo number time ∷ []
 AreEventsOf number made (lines.Redo time) es = es ≡ events.Redo number time ∷ []
 AreEventsOf number made (lines.Take elements) es = es ≡ taking_events number made elements
@@ -67,8 +70,9 @@ SaySession (bytes ∷ lines) opening es =
     ((fault : TextFault) × LineReads OpeningText bytes (Err fault) × SaySession lines opening es)
     ⊎ (LineReads OpeningText bytes (Ok opening) × SayEvents opening.number 0 lines es)
 
--- The lines are events of a session of 64 replicas, at whose end this replica sits at its number. As long as there are
--- not too many, it is a session as read ones are, so that all laws on sessions hold of it.
+-- The lines are events of a session of 64 replicas, at whose end this replica sits at its number.
+-- As long as there are not too many, it is a session as read ones are, so that all laws on sessions
+-- hold of it.
 pub record IsInSession (lines : List (List ℕ)) (l : Living) : Type 0 where
   pub opening : Opening
   pub events : List Event

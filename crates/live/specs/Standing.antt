@@ -1,5 +1,5 @@
--- What a program holds of a replica, as contracts see it, and which replica of the definitions it stands for. This
--- project's own.
+-- What a program holds of a replica, as contracts see it, and which replica of the definitions it
+-- stands for. This project's own.
 use Rattle.std.specs.Prelude.{◌≡◌, ℕ, List, Option, Some, None}
 use Rattle.rand_pcg.specs.Lcg.{Lcg}
 use Rattle.reconcile.specs.Ids.{AreStrictlySorted}
@@ -16,8 +16,8 @@ pub record Held : Type 0 where
   pub head : Heading
   pub replica : Kept
 
--- The replica stands for the state, whose held ids rise, and all else is the same. The updates that were taken aren't
--- held.
+-- The replica stands for the state, whose held ids rise, and all else is the same. The updates that
+-- were taken aren't held.
 pub record LifeStandsFor (held : Held) (l : Living) : Type 0 where
   pub number : held.number ≡ l.number
   pub generator : held.generator ≡ l.generator

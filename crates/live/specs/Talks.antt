@@ -1,5 +1,5 @@
--- What lines of bytes are answered with, one after the other: the first without a fault opens a replica, and the others
--- are for it. This project's own.
+-- What lines of bytes are answered with, one after the other: the first without a fault opens a
+-- replica, and the others are for it. This project's own.
 use Rattle.std.specs.Prelude.{◌≡◌, ◌⊎◌, ℕ, List, [], ◌∷◌, Option, Some, None, Result, Ok, Err}
 use Rattle.json_reader.specs.Faults.{IsFirstFault}
 use Rattle.json_reader.specs.declared.fault.JsonFault.{JsonFault}
@@ -14,15 +14,19 @@ use Rattle.session_text.specs.declared.lines.Opening.{Opening}
 use Rattle.live.specs.Living.{Living, Reply, IsReply, fault_text, opened_as, opened_text, unchanged}
 
 -- ---- a line of bytes
--- The line is no JSON value with white space around it, for this first fault. Its line feed isn't part of it.
+-- The line is no JSON value with white space around it, for this first fault. Its line feed isn't
+-- part of it.
 abbrev pub IsLineFault : List ℕ → JsonFault → Type 0
-IsLineFault bytes fault = IsFirstFault bytes 0 fault ⊎ ((at : ℕ) × (fault ≡ Syntax at) × HasMore bytes at)
+IsLineFault bytes fault =
+    IsFirstFault bytes 0 fault ⊎ ((at : ℕ) × (fault ≡ Syntax at) × HasMore bytes at)
 
--- The line is read so, where texts are: by its one value, with white space around it; or it has a fault of its form.
+-- The line is read so, where texts are: by its one value, with white space around it; or it has a
+-- fault of its form.
 pub data LineReads {A : Type 0} (Says : List ℕ → Result A TextFault → Type 0) (bytes : List ℕ)
     (read : Result A TextFault) : Type 0 where
   says : (text : List ℕ) → StandsAlone bytes text → Says text read → LineReads Says bytes read
-  faulty : (fault : JsonFault) → IsLineFault bytes fault → read ≡ Err (Json fault) → LineReads Says bytes read
+  faulty : (fault : JsonFault) → IsLineFault bytes fault → read ≡ Err (Json fault)
+      → LineReads Says bytes read
 
 -- ---- its answer
 -- what a fault of a line is answered with
@@ -57,7 +61,8 @@ pub record GoesOn (l : Living) (bytes answer : List ℕ) (new : Option Living) :
   pub text : answer ≡ reply.text
   pub after : new ≡ Some reply.after
 
--- A line of bytes is answered with this text, which no line feed ends, and leads from a replica, or none yet, to this.
+-- A line of bytes is answered with this text, which no line feed ends, and leads from a replica, or
+-- none yet, to this.
 abbrev pub Answers : Option Living → List ℕ → List ℕ → Option Living → Type 0
 Answers None bytes answer new = Opens bytes answer new
 Answers (Some l) bytes answer new = GoesOn l bytes answer new

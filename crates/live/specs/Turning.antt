@@ -1,4 +1,5 @@
--- What lines do to a replica: changes and undos that are done, and lines that are no event. This project's own.
+-- What lines do to a replica: changes and undos that are done, and lines that are no event. This
+-- project's own.
 use Rattle.std.specs.Prelude.{◌≡◌, ◌≢◌, ◌⊎◌, ℕ, zero, suc, List, [], ◌∷◌, Some, Result, Ok}
 use Rattle.board_commands.specs.declared.command.Capture.TheVariants.{Now}
 use Rattle.board_commands.specs.declared.command.Command.{Command}
@@ -36,8 +37,10 @@ pub record IsNoEvent (bytes : List ℕ) : Type 0 where
   pub reads : LineReads LineText bytes read
   pub none : (number made : ℕ) → AreReadEvents number made read []
 
--- So many of the lines are such, each where the lines before it lead, all others are no event, and they lead there.
-abbrev pub AreLinesOf : (Living → List ℕ → Living → Type 0) → Living → List (List ℕ) → ℕ → Living → Type 0
+-- So many of the lines are such, each where the lines before it lead, all others are no event, and
+-- they lead there.
+abbrev pub AreLinesOf : (Living → List ℕ → Living → Type 0) → Living → List (List ℕ) → ℕ → Living
+    → Type 0
 AreLinesOf Is l [] zero last = last ≡ l
 AreLinesOf Is l [] (suc n) last = ⊥
 AreLinesOf Is l (bytes ∷ lines) zero last = IsNoEvent bytes × AreLinesOf Is l lines zero last

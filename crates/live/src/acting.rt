@@ -78,7 +78,8 @@ pub(crate) fn turn(
 
 /// Puts a planned step in place.
 fn put(alloc: Global, replica: &mut Replica, plan: PlannedStep) -> Result<Bytes, AllocError>
-    requires planned { IsPlannedStep replica.old.stored replica.old.snapshot replica.old.stacks plan }
+    requires planned { IsPlannedStep replica.old.stored replica.old.snapshot replica.old.stacks
+        plan }
     ensures text { IfOk result (λ text. text ≡ acting.done_text plan.step) }
     ensures after { OnOk result ((s : State) → ReplicaStandsFor replica.old s
         → ReplicaStandsFor replica.new (after_turn plan.direction plan.time plan.nonce s)) }

@@ -33,13 +33,13 @@ impl Answerer for Talk {
     }
 }
 
-/// Answers each line that the source gives, up to its end: the first one without a fault opens a replica, and the
-/// others are for it. Each answer is written with a line feed before the next line is answered. What stands behind the
-/// last line feed is no line. Where memory is wanting for a line or its answer, the words of that are its answer, and
-/// the replica is as before.
-/// `ReadFailed` comes only where the source's count of faults rose, and all lines before are answered; `WriteFailed`
-/// only where the sink's rose, within the answer to a line. Want of memory is the answer where nothing was read yet, or
-/// more pieces came than a 64-bit number counts.
+/// Answers each line that the source gives, up to its end: the first one without a fault opens a
+/// replica, and the others are for it. Each answer is written with a line feed before the next line
+/// is answered. What stands behind the last line feed is no line. Where memory is wanting for a
+/// line or its answer, the words of that are its answer, and the replica is as before. `ReadFailed`
+/// comes only where the source's count of faults rose, and all lines before are answered;
+/// `WriteFailed` only where the sink's rose, within the answer to a line. Want of memory is the
+/// answer where nothing was read yet, or more pieces came than a 64-bit number counts.
 pub fn answer_input<S: Source, K: Sink>(
     alloc: Global,
     source: &mut S,

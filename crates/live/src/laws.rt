@@ -19,8 +19,10 @@ ghost use Rattle.live.specs.Turning.{AreLinesOf, IsChangeLine, IsUndoLine};
 pub fn answers_are_unique()
     ensures one { (old : Option Living) (line text other : List ℕ) (new next : Option Living)
         → Answers old line text new → Answers old line other next → (text ≡ other) × (new ≡ next) }
-    ensures all { (old : Option Living) (lines texts others : List (List ℕ)) (new next : Option Living)
-        → AnswersAll old lines texts new → AnswersAll old lines others next → (texts ≡ others) × (new ≡ next) }
+    ensures all { (old : Option Living) (lines texts others : List (List ℕ))
+        (new next : Option Living)
+        → AnswersAll old lines texts new → AnswersAll old lines others next → (texts ≡ others)
+        × (new ≡ next) }
 {}
 
 /// Each line has an answer.
@@ -31,31 +33,37 @@ pub fn answers_exist()
     room_msg::laws::reading_exists();
 }
 
-/// Lines of a whole talk of whose answers none tells of wanting memory are answered as the definition says.
+/// Lines of a whole talk of whose answers none tells of wanting memory are answered as the
+/// definition says.
 pub fn told_lines_are_answered()
     ensures { (lines texts : List (List ℕ)) → AreTold lines texts
         → AllByRecursion (λ text. text ≢ memory_text) texts
         → (after : Option Living) × AnswersAll None lines texts after }
 {}
 
-/// Whatever lines there were, a replica stores the best of the updates that it took, for each id, and nothing else.
+/// Whatever lines there were, a replica stores the best of the updates that it took, for each id,
+/// and nothing else.
 pub fn replicas_store_what_they_took()
     ensures { (lines texts : List (List ℕ)) (l : Living) → AnswersAll None lines texts (Some l)
         → AreStored l.seat.taken l.seat.state.stored }
 {}
 
-/// What a replica holds is sound, and all updates that it took are elements, as long as there are not too many lines.
+/// What a replica holds is sound, and all updates that it took are elements, as long as there are
+/// not too many lines.
 pub fn states_are_sound()
-    ensures sound { (lines texts : List (List ℕ)) (l : Living) → AnswersAll None lines texts (Some l)
+    ensures sound { (lines texts : List (List ℕ)) (l : Living)
+        → AnswersAll None lines texts (Some l)
         → length lines ≤ most_lines → IsSoundState l.seat.state }
-    ensures taken { (lines texts : List (List ℕ)) (l : Living) → AnswersAll None lines texts (Some l)
+    ensures taken { (lines texts : List (List ℕ)) (l : Living)
+        → AnswersAll None lines texts (Some l)
         → length lines ≤ most_lines → AreElements l.seat.taken }
 {
     room_msg::laws::read_messages_are_whole();
     session_laws::laws::states_are_sound();
 }
 
-/// Replicas that took the same updates, in whatever order, grouping and repetition, store and show the same.
+/// Replicas that took the same updates, in whatever order, grouping and repetition, store and show
+/// the same.
 pub fn replicas_converge()
     ensures stored { (lines texts others answers : List (List ℕ)) (l other : Living)
         → AnswersAll None lines texts (Some l) → AnswersAll None others answers (Some other)
@@ -67,8 +75,8 @@ pub fn replicas_converge()
         → scene_text head (shown_at l.seat) ≡ scene_text head (shown_at other.seat) }
 {}
 
-/// A replica on which nothing is pending makes changes, and then as many undos are done: it is as it was before the
-/// changes, whatever is asked meanwhile, as long as there are not too many lines.
+/// A replica on which nothing is pending makes changes, and then as many undos are done: it is as
+/// it was before the changes, whatever is asked meanwhile, as long as there are not too many lines.
 pub fn undo_brings_back()
     ensures { (before texts changes undos : List (List ℕ)) (l m k : Living) (n : ℕ)
         → AnswersAll None before texts (Some l) → HasNothingPending l.seat.state

@@ -32,11 +32,12 @@ use std::alloc::{AllocError, Global};
 use std::marker::Model;
 use view::view_of;
 
-/// A replica that is asked line by line. Contracts see its number, what its nonces are drawn from, the head of the
-/// scene that it was opened with, and its replica.
+/// A replica that is asked line by line. Contracts see its number, what its nonces are drawn from,
+/// the head of the scene that it was opened with, and its replica.
 ///
-/// `specs/Living.antt` says over whole elements what each line makes of it; a clause on a call is for every living
-/// replica that it stands for. No line is kept: beside the board and its history nothing grows.
+/// `specs/Living.antt` says over whole elements what each line makes of it; a clause on a call is
+/// for every living replica that it stands for. No line is kept: beside the board and its history
+/// nothing grows.
 pub struct Life {
     number: u64,
     generator: Pcg32,
@@ -62,13 +63,19 @@ impl Model for Life {
 
     ghost Value = { Held };
 
-    ghost view = { λ l. record { number = l.number; generator = l.generator; head = l.head; replica = l.replica } };
+    ghost view = { λ l. record {
+      number = l.number;
+      generator = l.generator;
+      head = l.head;
+      replica = l.replica;
+    } };
 
     ghost invariant = { λ l. l.number < 64 };
 }
 
 impl Life {
-    /// Opens a replica: the elements of the scene, if there is one, are delivered to it. Fails only for want of memory.
+    /// Opens a replica: the elements of the scene, if there is one, are delivered to it. Fails only
+    /// for want of memory.
     pub fn open(alloc: Global, mut opening: Opening) -> Result<Life, AllocError>
         requires { opening.number < 64 }
         ensures { IfOk result (λ life. LifeStandsFor life (opened_as opening)) }
@@ -86,7 +93,8 @@ impl Life {
         })
     }
 
-    /// Lets a line happen, and gives what it is answered with; no line feed ends it. Fails only for want of memory.
+    /// Lets a line happen, and gives what it is answered with; no line feed ends it. Fails only for
+    /// want of memory.
     pub fn answer(&mut self, alloc: Global, line: &Line) -> Result<Bytes, AllocError>
         requires { IsLineWithinLimits line.now }
         ensures answered { IfOk result (λ text. (l : Living) → LifeStandsFor self.old l
@@ -252,8 +260,8 @@ fn brought_by(message: &Message) -> &[Element]
     }
 }
 
-/// The nonce of the next change, undo or redo, and the generator then: a word is drawn, and the last six bits are the
-/// replica's number.
+/// The nonce of the next change, undo or redo, and the generator then: a word is drawn, and the
+/// last six bits are the replica's number.
 fn drawn(generator: &Pcg32, number: u64) -> Result<(u64, Pcg32), AllocError>
     requires { number < 64 }
     ensures nonce { IfOk result (λ drawn. drawn.0 ≡ 64 * next_word generator.now + number) }

@@ -17,8 +17,8 @@ use session_text::{TextFault, read_line, read_opening};
 use std::alloc::{AllocError, Global};
 use std::marker::Model;
 
-/// Lines of bytes that come one after the other: the first one without a fault opens a replica, and the others are for
-/// it. Contracts see the living replica, or nothing before it is opened.
+/// Lines of bytes that come one after the other: the first one without a fault opens a replica, and
+/// the others are for it. Contracts see the living replica, or nothing before it is opened.
 #[derive(Drop)]
 pub struct Talk {
     life: Option<Life>,
@@ -41,9 +41,9 @@ impl Talk {
         Talk { life: None }
     }
 
-    /// Takes a line, with its line feed or without it, and gives what it is answered with; no line feed ends the
-    /// answer. A line with a fault is answered with what is told of it, and changes nothing. Fails only for want of
-    /// memory.
+    /// Takes a line, with its line feed or without it, and gives what it is answered with; no line
+    /// feed ends the answer. A line with a fault is answered with what is told of it, and changes
+    /// nothing. Fails only for want of memory.
     pub fn answer(&mut self, alloc: Global, line: &[u8]) -> Result<Bytes, AllocError>
         ensures told { IfOk result (λ text. (old : Option Living) → TalkStandsFor self.old old
             → HasTold old line.now text self.new) }
@@ -60,7 +60,8 @@ impl Talk {
     }
 }
 
-/// What the line is answered with that may open a replica, and the replica, if the line has no fault.
+/// What the line is answered with that may open a replica, and the replica, if the line has no
+/// fault.
 fn open(alloc: Global, line: &[u8]) -> Result<(Bytes, Option<Life>), AllocError>
     ensures { IfOk result (λ opened. HasTold None line.now opened.0 opened.1) }
 {
@@ -102,7 +103,8 @@ fn answer(alloc: Global, life: &mut Life, line: &[u8]) -> Result<Bytes, AllocErr
 /// The one value that the bytes are, white space around it.
 fn lone_value(alloc: Global, bytes: &[u8]) -> Result<Raw, Stop<JsonFault>>
     ensures alone { IfOk result (StandsAlone bytes.now) }
-    ensures fault { (fault : JsonFault) → result ≡ Err (Stop.Fault fault) → IsLineFault bytes.now fault }
+    ensures fault { (fault : JsonFault) → result ≡ Err (Stop.Fault fault)
+        → IsLineFault bytes.now fault }
 {
     let (value, after) = scan(alloc, bytes, 0)?;
     let at = skip_space(bytes, after);

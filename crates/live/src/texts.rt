@@ -82,7 +82,8 @@ pub(crate) fn lengths_text(alloc: Global, undo: u64, redo: u64) -> Result<Bytes,
 /// A stored element, or null.
 pub(crate) fn stored_text(alloc: Global, e: Option<&Element>) -> Result<Bytes, AllocError>
     ensures { IfOk result (λ text. text
-        ≡ living.told (codes "stored") (option_map_or element_text (option_copied e.entry) null_word)) }
+        ≡ living.told (codes "stored") (option_map_or element_text (option_copied e.entry)
+        null_word)) }
 {
     match e {
         None => told(alloc, "stored", b"null"),

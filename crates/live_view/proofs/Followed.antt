@@ -20,7 +20,8 @@ if_live (Some e) = cond (is_live e) (Some e) None
 pub live-is : (e : ElementValue) → is_live e ≡ true → if_live (Some e) ≡ Some e
 live-is e is = ap (λ b. cond b (Some e) None) is
 
-pub element-live : (low : Option (List ℕ)) (es : List ElementValue) (id : List ℕ) → rise_between low None (ids_of es) ≡ true → element_of (live_elements es) id ≡ if_live (element_of es id)
+pub element-live : (low : Option (List ℕ)) (es : List ElementValue) (id : List ℕ)
+    → rise_between low None (ids_of es) ≡ true → element_of (live_elements es) id ≡ if_live (element_of es id)
 element-live low [] id rise = refl
 element-live low (e ∷ es) id rise =
     let later = (and_parts (ends_rise low (Some e.id)) (rise_between (Some e.id) None (ids_of es)) rise).1 in
@@ -32,35 +33,45 @@ element-live low (e ∷ es) id rise =
             | inl live ↦ rw (live, own, live) refl
             | inr deleted ↦ rw (deleted, own, deleted) (rest ∙ ap if_live none)
           ]
-      | inr other ↦ elim (cases_Bool (is_live e)) [ inl live ↦ rw (live, other) rest | inr deleted ↦ rw (deleted, other) rest ]
+      | inr other ↦ elim (cases_Bool (is_live e)) [
+        | inl live ↦ rw (live, other) rest
+        | inr deleted ↦ rw (deleted, other) rest
+      ]
     ]
 
 -- ---- the store takes one element
 pub not-taken : (e : ElementValue) (stored : List ElementValue) → is_taken stored e ≡ false → taken e stored ≡ stored
 not-taken e stored stays = ap (λ b. cond b (with_put e stored) stored) stays
 
-module _ (elements stored : List ElementValue) (e : ElementValue) (rising : are_rising (ids_of elements) ≡ true) (has : HasTaken elements e stored) where
+module _ (elements stored : List ElementValue) (e : ElementValue) (rising : are_rising (ids_of elements) ≡ true)
+    (has : HasTaken elements e stored) where
   at_own : is_taken elements e ≡ true → element_of stored e.id ≡ Some e
   at_own takes =
       has.each e.id
-      ∙ (ap (λ b. cond (b && is_taken elements e) (Some e) (element_of elements e.id)) (of_itself e) ∙ ap (λ b. cond b (Some e) (element_of elements e.id)) takes)
+      ∙ (ap (λ b. cond (b && is_taken elements e) (Some e) (element_of elements e.id)) (of_itself e)
+      ∙ ap (λ b. cond b (Some e) (element_of elements e.id)) takes)
 
   at_others : (id : List ℕ) → has_id id e ≡ false → element_of stored id ≡ element_of elements id
   at_others id other = has.each id ∙ ap (λ b. cond (b && is_taken elements e) (Some e) (element_of elements id)) other
 
-  pub taken-redrawn : (new_live : List ElementValue) → is_taken elements e ≡ true → HasRedrawn (live_elements elements) e new_live → new_live ≡ live_elements stored
+  pub taken-redrawn : (new_live : List ElementValue) → is_taken elements e ≡ true
+      → HasRedrawn (live_elements elements) e new_live → new_live ≡ live_elements stored
   taken-redrawn new_live takes drawn =
-      all-redrawn (live_elements elements) (live_elements stored) new_live e (live_elements-rise stored has.ordered) drawn
+      all-redrawn (live_elements elements) (live_elements stored) new_live e (live_elements-rise stored has.ordered)
+      drawn
       (element-live None stored e.id has.ordered ∙ (ap if_live (at_own takes) ∙ live-is e drawn.is_live))
-      (λ id other. element-live None elements id rising ∙ (ap if_live (sym (at_others id other)) ∙ sym (element-live None stored id has.ordered)))
+      (λ id other. element-live None elements id rising
+      ∙ (ap if_live (sym (at_others id other)) ∙ sym (element-live None stored id has.ordered)))
 
 -- ---- the live elements differ at one id
-pub updated-redrawn : (elements live new_live : List ElementValue) (e : ElementValue) (id : List ℕ) → are_rising (ids_of elements) ≡ true → AreSameButAt (id ∷ []) live (live_elements elements)
+pub updated-redrawn : (elements live new_live : List ElementValue) (e : ElementValue) (id : List ℕ)
+    → are_rising (ids_of elements) ≡ true → AreSameButAt (id ∷ []) live (live_elements elements)
     → element_of elements id ≡ Some e → HasRedrawn live e new_live → new_live ≡ live_elements elements
 updated-redrawn elements live new_live e id rising same found has =
     let named : id ≡ e.id = same_id id e (find-Some (has_id id) elements e found).1 in
     all-redrawn live (live_elements elements) new_live e (live_elements-rise elements rising) has
-    (element-live None elements e.id rising ∙ (ap if_live (ap (element_of elements) (sym named) ∙ found) ∙ live-is e has.is_live))
+    (element-live None elements e.id rising ∙ (ap if_live (ap (element_of elements) (sym named) ∙ found)
+    ∙ live-is e has.is_live))
     (λ other ne. same other (rw (ap (bytes_eq other) named ∙ ne) refl))
 
 -- ---- a list of one item

@@ -23,28 +23,39 @@ use Rattle.live_view.proofs.RowLaws.{rows-replaced}
 use Rattle.live_view.proofs.ShownAfter.{has-replaced, view-after}
 use Rattle.live_view.proofs.UnsettledLaws.{others-replaced}
 
-module _ (live drawn news : List ElementValue) (held puts : List Put) (rows : List LinkRow) (unsettled : BTreeSet (List ℕ)) (is : IsLiveView live drawn rows unsettled) (ordered : are_rising (ids_of news) ≡ true) (live_news : list_all is_live news ≡ true)
+module _ (live drawn news : List ElementValue) (held puts : List Put) (rows : List LinkRow)
+    (unsettled : BTreeSet (List ℕ)) (is : IsLiveView live drawn rows unsettled) (ordered : are_rising (ids_of news)
+    ≡ true) (live_news : list_all is_live news ≡ true)
     (are : puts_of held ≡ news) (in_place : All (IsInPlace live) held) (repairs : AreRepairs live drawn news puts) where
   pub replaced : HaveReplaced live news (all_put held live)
   replaced = has-replaced live drawn news held is.view ordered live_news are (recursion_from_All _ _ in_place)
 
   pub IsView-after : IsView (all_put held live) (all_put puts drawn)
-  IsView-after = view-after live drawn news held is.view ordered live_news are (recursion_from_All _ _ in_place) puts repairs (recursion_from_All _ _ repairs.placed)
+  IsView-after = view-after live drawn news held is.view ordered live_news are (recursion_from_All _ _ in_place) puts
+      repairs (recursion_from_All _ _ repairs.placed)
 
-  pub IsLiveView-after : (old_rows new_rows new : List LinkRow) (noted settled : BTreeSet (List ℕ)) → AreRowsOfAll (filter_map (λ (e : ElementValue). element_of live e.id) news) old_rows → AreRowsOfAll news new_rows
+  pub IsLiveView-after : (old_rows new_rows new : List LinkRow) (noted settled : BTreeSet (List ℕ))
+      → AreRowsOfAll (filter_map (λ (e : ElementValue). element_of live e.id) news) old_rows
+      → AreRowsOfAll news new_rows
       → ((row : LinkRow) → has_row new row ≡ (has_row new_rows row || (has_row rows row && not (has_row old_rows row))))
       → StillHas unsettled noted → HasNoted (put_ids puts ++ ids_of news) noted
-      → (AreOthersAsStored noted (all_put held live) (all_put puts drawn) → AreOthersAsStored settled (all_put held live) (all_put puts drawn))
+      → (AreOthersAsStored noted (all_put held live) (all_put puts drawn)
+      → AreOthersAsStored settled (all_put held live) (all_put puts drawn))
       → IsLiveView (all_put held live) (all_put puts drawn) new settled
   IsLiveView-after old_rows new_rows new noted settled are_old are_new has kept has_noted settle = record {
     view = IsView-after;
-    table = rows-replaced live news (all_put held live) rows old_rows new_rows new (HaveDistinctIds-rising news ordered) is.table are_old are_new has replaced;
-    others = settle (others-replaced live drawn unsettled noted is.others kept news (all_put held live) puts repairs replaced has_noted);
+    table = rows-replaced live news (all_put held live) rows old_rows new_rows new (HaveDistinctIds-rising news ordered)
+        is.table are_old are_new has replaced;
+    others = settle (others-replaced live drawn unsettled noted is.others kept news (all_put held live) puts repairs
+        replaced has_noted);
   }
 
 -- the rows stay where an element is redrawn
-pub rows-redrawn : (new : ElementValue) (live : List ElementValue) (rows : List LinkRow) → HaveRowsOf live rows → HaveRowsOf (map (redrawn_as new) live) rows
-rows-redrawn new live rows have named namer = have named namer ∙ by (element_of live namer) ∙ sym (ap (λ o. option_map_or (names_id named) o false) (element-redrawn new namer live)) where
-  by : (o : Option ElementValue) → option_map_or (names_id named) o false ≡ option_map_or (names_id named) (option_map (redrawn_as new) o) false
-  by None = refl
-  by (Some e) = refl
+pub rows-redrawn : (new : ElementValue) (live : List ElementValue) (rows : List LinkRow) → HaveRowsOf live rows
+    → HaveRowsOf (map (redrawn_as new) live) rows
+rows-redrawn new live rows have named namer = have named namer ∙ by (element_of live namer)
+    ∙ sym (ap (λ o. option_map_or (names_id named) o false) (element-redrawn new namer live)) where
+      by : (o : Option ElementValue) → option_map_or (names_id named) o false
+          ≡ option_map_or (names_id named) (option_map (redrawn_as new) o) false
+      by None = refl
+      by (Some e) = refl

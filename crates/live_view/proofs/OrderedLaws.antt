@@ -31,39 +31,49 @@ before-less : (e f : ElementValue) → comes_before e f ≡ true → place_cmp e
 before-less e f h = less-from (place_cmp e f) (sym (comes_before-cmp e f) ∙ h)
 
 pub before-trans : (e f g : ElementValue) → comes_before e f ≡ true → comes_before f g ≡ true → comes_before e g ≡ true
-before-trans e f g h k = comes_before-cmp e g ∙ ap is_lt (place_cmp-total.trans e f g (before-less e f h) (before-less f g k))
+before-trans e f g h k =
+    comes_before-cmp e g ∙ ap is_lt (place_cmp-total.trans e f g (before-less e f h) (before-less f g k))
 
 pub not-before : (e f : ElementValue) → comes_before e f ≡ true → comes_before f e ≡ false
-not-before e f h = comes_before-cmp f e ∙ ap is_lt (place_cmp-total.antisymm f e ∙ ap ordering_reverse (before-less e f h))
+not-before e f h =
+    comes_before-cmp f e ∙ ap is_lt (place_cmp-total.antisymm f e ∙ ap ordering_reverse (before-less e f h))
 
 -- ---- one more at its place
-rest-place : (f : ElementValue) (fs : List ElementValue) (e : ElementValue) (n : ℕ) → IsPlaceFor (f ∷ fs) e (suc n) → IsPlaceFor fs e n
+rest-place : (f : ElementValue) (fs : List ElementValue) (e : ElementValue) (n : ℕ) → IsPlaceFor (f ∷ fs) e (suc n)
+    → IsPlaceFor fs e n
 rest-place f fs e n is = record {
   within = let l = is.within in omega arith;
   before = λ i d h. is.before (suc i) d (omega arith);
   behind = λ d l. is.behind d (omega arith);
 }
 
-pub with-place : (es : List ElementValue) (e : ElementValue) (place : ℕ) → AreInSceneOrder es → IsPlaceFor es e place → with_element comes_before e es ≡ insert es place e
+pub with-place : (es : List ElementValue) (e : ElementValue) (place : ℕ) → AreInSceneOrder es → IsPlaceFor es e place
+    → with_element comes_before e es ≡ insert es place e
 with-place [] e zero sorted is = refl
 with-place [] e (suc n) sorted is = let l = is.within in absurd (omega arith)
 with-place (f ∷ fs) e zero sorted is =
-    cond-false (comes_before f e) (f ∷ with_element comes_before e fs) (e ∷ f ∷ fs) (not-before e f (is.behind f (omega arith)))
+    cond-false (comes_before f e) (f ∷ with_element comes_before e fs) (e ∷ f ∷ fs)
+    (not-before e f (is.behind f (omega arith)))
 with-place (f ∷ fs) e (suc n) sorted is =
     cond-true (comes_before f e) (f ∷ with_element comes_before e fs) (e ∷ f ∷ fs) (first n is)
-    ∙ ap (λ rest. f ∷ rest) (with-place fs e n (λ i j d l m. sorted (suc i) (suc j) d (omega arith) (omega arith)) (rest-place f fs e n is))
+    ∙ ap (λ rest. f ∷ rest) (with-place fs e n (λ i j d l m. sorted (suc i) (suc j) d (omega arith) (omega arith))
+    (rest-place f fs e n is))
   where
     first : (n : ℕ) → IsPlaceFor (f ∷ fs) e (suc n) → comes_before f e ≡ true
     first zero is = is.before 0 f (omega arith)
-    first (suc n) is = before-trans f (get_or fs n f) e (sorted 0 (suc n) f (omega arith) (let l = is.within in omega arith)) (is.before (suc n) f (omega arith))
+    first (suc n) is = before-trans f (get_or fs n f) e (sorted 0 (suc n) f (omega arith) (let l = is.within in
+        omega arith)) (is.before (suc n) f (omega arith))
 
 -- the elements in their order with one more, which comes anywhere among them
-pub order-with : (es after : List ElementValue) (e : ElementValue) (place : ℕ) → AreInSceneOrder (in_scene_order es) → HaveDistinctIds (e ∷ es) → IsPermutation (e ∷ es) after → IsPlaceFor (in_scene_order es) e place
+pub order-with : (es after : List ElementValue) (e : ElementValue) (place : ℕ) → AreInSceneOrder (in_scene_order es)
+    → HaveDistinctIds (e ∷ es) → IsPermutation (e ∷ es) after → IsPlaceFor (in_scene_order es) e place
     → in_scene_order after ≡ insert (in_scene_order es) place e
-order-with es after e place sorted apart moved is = in_order-permuted scene_order (e ∷ es) after apart moved ∙ with-place (in_scene_order es) e place sorted is
+order-with es after e place sorted apart moved is =
+    in_order-permuted scene_order (e ∷ es) after apart moved ∙ with-place (in_scene_order es) e place sorted is
 
 -- ---- the shown elements as they are stored are those in scene order
-own-stored : (live : List ElementValue) (es drawn : List ElementValue) → ids_of drawn ≡ ids_of es → ((e : ElementValue) → Contains es e → element_of live e.id ≡ Some e) → map (as_stored live) drawn ≡ es
+own-stored : (live : List ElementValue) (es drawn : List ElementValue) → ids_of drawn ≡ ids_of es
+    → ((e : ElementValue) → Contains es e → element_of live e.id ≡ Some e) → map (as_stored live) drawn ≡ es
 own-stored live [] [] ids each = refl
 own-stored live [] (d ∷ drawn) ids each = cc
 own-stored live (e ∷ es) [] ids each = cc
@@ -76,10 +86,13 @@ own-stored live (e ∷ es) (d ∷ drawn) ids each =
 pub stored-order : (live drawn : List ElementValue) → IsView live drawn → all_stored live drawn ≡ in_scene_order live
 stored-order live drawn view =
     own-stored live (in_scene_order live) drawn (ap ids_of view.exact ∙ (shown-is live view.keys).along)
-    (λ e c. member None None live e view.ordered (Contains-permutation (in_scene_order live) live e (IsPermutation-sym _ _ (IsPermutation-in_scene_order live)) c))
+    (λ e c. member None None live e view.ordered
+    (Contains-permutation (in_scene_order live) live e (IsPermutation-sym _ _ (IsPermutation-in_scene_order live))
+    c))
 
 -- ---- a list with one more, or without one
-pub map-insert : {X Y : Type 0} (f : X → Y) (xs : List X) (i : ℕ) (x : X) → map f (insert xs i x) ≡ insert (map f xs) i (f x)
+pub map-insert : {X Y : Type 0} (f : X → Y) (xs : List X) (i : ℕ) (x : X)
+    → map f (insert xs i x) ≡ insert (map f xs) i (f x)
 map-insert f xs zero x = refl
 map-insert f [] (suc i) x = refl
 map-insert f (y ∷ xs) (suc i) x = ap (λ ys. f y ∷ ys) (map-insert f xs i x)
@@ -92,9 +105,11 @@ map-remove f (y ∷ xs) (suc i) = ap (λ ys. f y ∷ ys) (map-remove f xs i)
 
 pub insert-moved : {X : Type 0} (xs : List X) (i : ℕ) (x : X) → IsPermutation (x ∷ xs) (insert xs i x)
 insert-moved xs i x =
-    IsPermutation-sym _ _ (subst (λ ys. IsPermutation (insert xs i x) (x ∷ ys)) (take-append-drop i xs) (IsPermutation-middle (take i xs) x (drop i xs)))
+    IsPermutation-sym _ _ (subst (λ ys. IsPermutation (insert xs i x) (x ∷ ys)) (take-append-drop i xs)
+    (IsPermutation-middle (take i xs) x (drop i xs)))
 
-pub removed-moved : {X : Type 0} (xs : List X) (i : ℕ) (x : X) → i < length xs → get_or xs i x ≡ x → IsPermutation (x ∷ remove xs i) xs
+pub removed-moved : {X : Type 0} (xs : List X) (i : ℕ) (x : X) → i < length xs → get_or xs i x ≡ x
+    → IsPermutation (x ∷ remove xs i) xs
 removed-moved [] i x l is = absurd (omega arith)
 removed-moved (y ∷ xs) zero x l is = subst (λ z. IsPermutation (z ∷ xs) (y ∷ xs)) is (IsPermutation-refl (y ∷ xs))
 removed-moved (y ∷ xs) (suc i) x l is =
@@ -107,22 +122,29 @@ abbrev pub others_than : List ℕ → List ElementValue → List ElementValue
 others_than id es = filter (λ (e : ElementValue). not (bytes_eq id e.id)) es
 
 turned : (a b : List ℕ) → bytes_eq a b ≡ false → bytes_eq b a ≡ false
-turned a b h = false_from_ne_true (bytes_eq b a) (λ is. both_ways (bytes_eq a b) h ((bytes_eq-Decides a b).1 (sym ((bytes_eq-Decides b a).0 is))))
+turned a b h = false_from_ne_true (bytes_eq b a)
+    (λ is. both_ways (bytes_eq a b) h ((bytes_eq-Decides a b).1 (sym ((bytes_eq-Decides b a).0 is))))
 
-pub others-apart : (id : List ℕ) (es : List ElementValue) → ((e : ElementValue) → Contains es e → bytes_eq id e.id ≡ false) → others_than id es ≡ es
+pub others-apart : (id : List ℕ) (es : List ElementValue)
+    → ((e : ElementValue) → Contains es e → bytes_eq id e.id ≡ false) → others_than id es ≡ es
 others-apart id [] apart = refl
-others-apart id (e ∷ es) apart = rw (apart e (Contains-head e es)) (ap (λ xs. e ∷ xs) (others-apart id es (λ x c. apart x (Contains-cons e es x c))))
+others-apart id (e ∷ es) apart =
+    rw (apart e (Contains-head e es)) (ap (λ xs. e ∷ xs) (others-apart id es (λ x c. apart x (Contains-cons e es x c))))
 
-apart-of : (id : List ℕ) (es : List ElementValue) → AllByRecursion (λ other. bytes_eq id other ≡ false) (ids_of es) → others_than id es ≡ es
+apart-of : (id : List ℕ) (es : List ElementValue) → AllByRecursion (λ other. bytes_eq id other ≡ false) (ids_of es)
+    → others_than id es ≡ es
 apart-of id [] all = refl
 apart-of id (e ∷ es) all = rw all.0 (ap (λ xs. e ∷ xs) (apart-of id es all.1))
 
-apart-at : (id : List ℕ) (es : List ElementValue) (i : ℕ) (e : ElementValue) → AllByRecursion (λ other. bytes_eq id other ≡ false) (ids_of es) → i < length es → get_or es i e ≡ e → bytes_eq id e.id ≡ false
+apart-at : (id : List ℕ) (es : List ElementValue) (i : ℕ) (e : ElementValue)
+    → AllByRecursion (λ other. bytes_eq id other ≡ false) (ids_of es) → i < length es → get_or es i e ≡ e
+    → bytes_eq id e.id ≡ false
 apart-at id [] i e all l is = absurd (omega arith)
 apart-at id (x ∷ es) zero e all l is = ap (λ (y : ElementValue). bytes_eq id y.id) (sym is) ∙ all.0
 apart-at id (x ∷ es) (suc i) e all l is = apart-at id es i e all.1 (omega arith) is
 
-pub others-removed : (es : List ElementValue) (i : ℕ) (e : ElementValue) → HaveDistinctIds es → i < length es → get_or es i e ≡ e → others_than e.id es ≡ remove es i
+pub others-removed : (es : List ElementValue) (i : ℕ) (e : ElementValue) → HaveDistinctIds es → i < length es
+    → get_or es i e ≡ e → others_than e.id es ≡ remove es i
 unfolding IsDistinct
 others-removed [] i e apart l is = absurd (omega arith)
 others-removed (x ∷ es) zero e apart l is =
@@ -133,21 +155,26 @@ others-removed (x ∷ es) (suc i) e apart l is =
     rw other (ap (λ xs. x ∷ xs) (others-removed es i e apart.1 (omega arith) is))
 
 -- ---- ids that rise
-rise-lower : (low : Option (List ℕ)) (key : List ℕ) (keys : List (List ℕ)) → ends_rise low (Some key) ≡ true → rise_between (Some key) None keys ≡ true → rise_between low None keys ≡ true
+rise-lower : (low : Option (List ℕ)) (key : List ℕ) (keys : List (List ℕ)) → ends_rise low (Some key) ≡ true
+    → rise_between (Some key) None keys ≡ true → rise_between low None keys ≡ true
 rise-lower None key [] h l = refl
 rise-lower (Some low) key [] h l = refl
 rise-lower low key (next ∷ keys) h l =
     let p = and_parts (bytes_less key next) (rise_between (Some next) None keys) l in
-    let first = rise_between-ends low (Some next) (key ∷ []) (and_from (ends_rise low (Some key)) (bytes_less key next) h p.0) in
+    let first = rise_between-ends low (Some next) (key ∷ [])
+    (and_from (ends_rise low (Some key)) (bytes_less key next) h p.0) in
     and_from (ends_rise low (Some next)) (rise_between (Some next) None keys) first p.1
 
-filter-rises : (low : Option (List ℕ)) (p : ElementValue → Bool) (es : List ElementValue) → rise_between low None (ids_of es) ≡ true → rise_between low None (ids_of (filter p es)) ≡ true
+filter-rises : (low : Option (List ℕ)) (p : ElementValue → Bool) (es : List ElementValue)
+    → rise_between low None (ids_of es) ≡ true → rise_between low None (ids_of (filter p es)) ≡ true
 filter-rises low p [] h = h
 filter-rises low p (e ∷ es) h =
     let both = and_parts (ends_rise low (Some e.id)) (rise_between (Some e.id) None (ids_of es)) h in
     cond_both (p e) (e ∷ filter p es) (filter p es) (λ kept. rise_between low None (ids_of kept) ≡ true)
-    (λ _. and_from (ends_rise low (Some e.id)) (rise_between (Some e.id) None (ids_of (filter p es))) both.0 (filter-rises (Some e.id) p es both.1))
+    (λ _. and_from (ends_rise low (Some e.id)) (rise_between (Some e.id) None (ids_of (filter p es))) both.0
+    (filter-rises (Some e.id) p es both.1))
     (λ _. filter-rises low p es (rise-lower low e.id (ids_of es) both.0 both.1))
 
-pub others-rise : (id : List ℕ) (es : List ElementValue) → are_rising (ids_of es) ≡ true → are_rising (ids_of (others_than id es)) ≡ true
+pub others-rise : (id : List ℕ) (es : List ElementValue) → are_rising (ids_of es) ≡ true
+    → are_rising (ids_of (others_than id es)) ≡ true
 others-rise id es h = filter-rises None (λ (e : ElementValue). not (bytes_eq id e.id)) es h

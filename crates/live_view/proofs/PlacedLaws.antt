@@ -17,28 +17,35 @@ use Rattle.index_repair.specs.Keyed.{index_of, keyed, HaveKeysOrNone}
 use Rattle.view.specs.Shown.{in_scene_order, placed, shown, bare, without_index}
 use Rattle.view.proofs.CallerLemmas.{IsPermutation-in_scene_order, map-less, unsettled-settled, shown-is}
 
-pub shown-distinct : (live : List ElementValue) → HaveDistinctIds live → HaveKeysOrNone live → HaveDistinctIds (shown live)
+pub shown-distinct : (live : List ElementValue) → HaveDistinctIds live → HaveKeysOrNone live
+    → HaveDistinctIds (shown live)
 shown-distinct live apart h =
-    IsDistinct-IsPermutation bytes_eq nat_list_eq_equiv.symm (ids_of live) (ids_of (shown live)) (shown-is live h).ids apart
+    IsDistinct-IsPermutation bytes_eq nat_list_eq_equiv.symm (ids_of live) (ids_of (shown live)) (shown-is live h).ids
+    apart
 
 -- there are as many keys as elements
-pub keys-count : (live : List ElementValue) → HaveKeysOrNone live → length (repaired (map index_of (in_scene_order live))) ≡ length (in_scene_order live)
+pub keys-count : (live : List ElementValue) → HaveKeysOrNone live
+    → length (repaired (map index_of (in_scene_order live))) ≡ length (in_scene_order live)
 keys-count live h =
     let ordered = in_scene_order live in
     let moved = IsPermutation-map index_of live ordered (IsPermutation-in_scene_order live) in
     let keys = list_all-from_AllPass is_key_or_none (map index_of ordered)
-    (All-permutation (λ x. is_key_or_none x ≡ true) (map index_of live) (map index_of ordered) moved (AllPass-from_list_all is_key_or_none (map index_of live) h)) in
+    (All-permutation (λ x. is_key_or_none x ≡ true) (map index_of live) (map index_of ordered) moved
+    (AllPass-from_list_all is_key_or_none (map index_of live) h)) in
     (repaired-law (map index_of ordered) keys).count ∙ length-map ordered index_of
 
-pub others-keyed : (es : List ElementValue) (keys : List (List ℕ)) → length keys ≡ length es → map without_index (keyed es keys) ≡ map without_index es
+pub others-keyed : (es : List ElementValue) (keys : List (List ℕ)) → length keys ≡ length es
+    → map without_index (keyed es keys) ≡ map without_index es
 others-keyed [] keys h = refl
 others-keyed (e ∷ es) [] h = absurd (omega arith)
 others-keyed (e ∷ es) (key ∷ keys) h = ap (λ others. without_index e ∷ others) (others-keyed es keys (omega arith))
 
 -- what is shown of a live element is that element but for what settling and repair change
-pub bare-shown : (live : List ElementValue) → HaveKeysOrNone live → map bare (shown live) ≡ map bare (in_scene_order live)
+pub bare-shown : (live : List ElementValue) → HaveKeysOrNone live
+    → map bare (shown live) ≡ map bare (in_scene_order live)
 unfolding placed shown
 bare-shown live h =
     let ordered = in_scene_order live in
     map-less unsettled without_index (settled (placed live)) (placed live) (unsettled-settled (placed live))
-    ∙ map-less without_index unsettled (placed live) ordered (others-keyed ordered (repaired (map index_of ordered)) (keys-count live h))
+    ∙ map-less without_index unsettled (placed live) ordered
+    (others-keyed ordered (repaired (map index_of ordered)) (keys-count live h))

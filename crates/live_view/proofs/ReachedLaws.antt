@@ -12,7 +12,8 @@ use Rattle.view.specs.Shown.{without_index}
 use Rattle.view.specs.Steps.{HasAllLinked, HasAllNear}
 use Rattle.live_view.specs.Reached.{is_among, AreSurrounded, HaveStepped, HaveReached, IsStartedBy, AreStartedBy}
 
-pub any_found : {X : Type 0} (p : X → Bool) (xs : List X) → list_any p xs ≡ true → (x : X) × Contains xs x × (p x ≡ true)
+pub any_found : {X : Type 0} (p : X → Bool) (xs : List X) → list_any p xs ≡ true → (x : X) × Contains xs x
+    × (p x ≡ true)
 any_found p [] h = cc
 any_found p (x ∷ xs) h =
     elim (or_cases (p x) (list_any p xs) h) [
@@ -38,12 +39,15 @@ abbrev pub AreOf : List ElementValue → List ElementValue → List ElementValue
 AreOf live news list = (e : ElementValue) → Contains list e → IsOneOf live e ⊎ IsOneOf news e
 
 -- all that is linked to an id passes a test
-pub all-linked : (among : ElementValue → Bool) (list : List ElementValue) (id : List ℕ) → ((e : ElementValue) → Contains list e → is_within 3 list id e ≡ true → among e ≡ true) → HasAllLinked among list id
+pub all-linked : (among : ElementValue → Bool) (list : List ElementValue) (id : List ℕ)
+    → ((e : ElementValue) → Contains list e → is_within 3 list id e ≡ true → among e ≡ true)
+    → HasAllLinked among list id
 all-linked among list id each = λ k d l.
     let p = is_within 3 list id in
     each _ (All-filter p (Contains list) list (All-contains_itself list) k d l) (filter_passes p list k d l)
 
-module _ (live news list : List ElementValue) (start : List (List ℕ)) (started : AreStartedBy start news) (are : AreOf live news list) where
+module _ (live news list : List ElementValue) (start : List (List ℕ)) (started : AreStartedBy start news)
+    (are : AreOf live news list) where
   abbrev Has : List (List ℕ) → Type 0
   Has from = (id : List ℕ) → is_among start id ≡ true → is_among from id ≡ true
 
@@ -51,20 +55,25 @@ module _ (live news list : List ElementValue) (start : List (List ℕ)) (started
   begins e c = All-contains (IsStartedBy start) news e started c
 
   module _ (from to : List (List ℕ)) (stepped : HaveStepped live from from to) (has : Has from) where
-    step : (e other : ElementValue) → Contains list e → Contains list other → is_one_step e other ≡ true → is_among from e.id ≡ true → is_among to other.id ≡ true
+    step : (e other : ElementValue) → Contains list e → Contains list other → is_one_step e other ≡ true
+        → is_among from e.id ≡ true → is_among to other.id ≡ true
     step e other among also one at' = elim (or_cases (links_to other.id e) (links_to e.id other) one) [
       | inl links ↦ elim (are e among) [
         | inl of ↦
             let same = of.2 in
-            stepped.linked of.0 other.id of.1 (subst (λ id. is_among from id ≡ true) (ap (λ (x : ElementValue). x.id) same) at') (sym (ap (links_to other.id) same) ∙ links)
+            stepped.linked of.0 other.id of.1
+            (subst (λ id. is_among from id ≡ true) (ap (λ (x : ElementValue). x.id) same) at')
+            (sym (ap (links_to other.id) same) ∙ links)
         | inr of ↦
             let same = of.2 in
-            stepped.kept other.id (has other.id ((begins of.0 of.1).1 other.id (sym (ap (links_to other.id) same) ∙ links)))
+            stepped.kept other.id (has other.id ((begins of.0 of.1).1 other.id (sym (ap (links_to other.id) same)
+            ∙ links)))
       ]
       | inr links ↦ elim (are other also) [
         | inl of ↦
             let same = of.2 in
-            subst (λ id. is_among to id ≡ true) (sym (ap (λ (x : ElementValue). x.id) same)) (stepped.linking of.0 e.id of.1 at' (sym (ap (links_to e.id) same) ∙ links))
+            subst (λ id. is_among to id ≡ true) (sym (ap (λ (x : ElementValue). x.id) same))
+            (stepped.linking of.0 e.id of.1 at' (sym (ap (links_to e.id) same) ∙ links))
         | inr of ↦
             let same = of.2 in
             subst (λ id. is_among to id ≡ true) (sym (ap (λ (x : ElementValue). x.id) same))
@@ -76,7 +85,8 @@ module _ (live news list : List ElementValue) (start : List (List ℕ)) (started
     next id is = stepped.kept id (has id is)
 
     module _ (n : ℕ) (id : List ℕ) where
-      on : ((e : ElementValue) → Contains list e → is_within n list id e ≡ true → is_among from e.id ≡ true) → (e : ElementValue) → Contains list e → is_within (suc n) list id e ≡ true → is_among to e.id ≡ true
+      on : ((e : ElementValue) → Contains list e → is_within n list id e ≡ true → is_among from e.id ≡ true)
+          → (e : ElementValue) → Contains list e → is_within (suc n) list id e ≡ true → is_among to e.id ≡ true
       unfolding is_within
       on so_far e among within = elim (or_cases (is_within n list id e) _ within) [
         | inl nearer ↦ stepped.kept e.id (so_far e among nearer)
@@ -86,15 +96,18 @@ module _ (live news list : List ElementValue) (start : List (List ℕ)) (started
             step found.0 e found.1 among both.1 (so_far found.0 found.1 both.0)
       ]
 
-      back : ((e : ElementValue) → Contains list e → is_within n list id e ≡ true → is_among to e.id ≡ false) → (e : ElementValue) → Contains list e → is_within (suc n) list id e ≡ true → is_among from e.id ≡ false
+      back : ((e : ElementValue) → Contains list e → is_within n list id e ≡ true → is_among to e.id ≡ false)
+          → (e : ElementValue) → Contains list e → is_within (suc n) list id e ≡ true → is_among from e.id ≡ false
       unfolding is_within
-      back so_far e among within = false_from_ne_true (is_among from e.id) (λ at'. elim (or_cases (is_within n list id e) _ within) [
-        | inl nearer ↦ both_ways (is_among to e.id) (so_far e among nearer) (stepped.kept e.id at')
-        | inr later ↦
-            let found = any_found (λ other. is_within n list id other && is_one_step other e) list later in
-            let both = and_parts (is_within n list id found.0) (is_one_step found.0 e) found.2 in
-            both_ways (is_among to found.0.id) (so_far found.0 found.1 both.0) (step e found.0 among found.1 (one_step-back e found.0 ∙ both.1) at')
-      ])
+      back so_far e among within =
+          false_from_ne_true (is_among from e.id) (λ at'. elim (or_cases (is_within n list id e) _ within) [
+            | inl nearer ↦ both_ways (is_among to e.id) (so_far e among nearer) (stepped.kept e.id at')
+            | inr later ↦
+                let found = any_found (λ other. is_within n list id other && is_one_step other e) list later in
+                let both = and_parts (is_within n list id found.0) (is_one_step found.0 e) found.2 in
+                both_ways (is_among to found.0.id) (so_far found.0 found.1 both.0)
+                (step e found.0 among found.1 (one_step-back e found.0 ∙ both.1) at')
+          ])
 
   module _ (from to : List (List ℕ)) (reached : HaveReached live from to) (has : Has from) where
     one : Has reached.one
@@ -106,24 +119,28 @@ module _ (live news list : List ElementValue) (start : List (List ℕ)) (started
     pub all : Has to
     all = next reached.two to reached.third two
 
-    own : (ids : List (List ℕ)) (id : List ℕ) (b : Bool) → is_among ids id ≡ b → (e : ElementValue) → is_within 0 list id e ≡ true → is_among ids e.id ≡ b
+    own : (ids : List (List ℕ)) (id : List ℕ) (b : Bool) → is_among ids id ≡ b → (e : ElementValue)
+        → is_within 0 list id e ≡ true → is_among ids e.id ≡ b
     unfolding is_within
     own ids id b is e within = subst (λ n. is_among ids n ≡ b) ((bytes_eq-Decides id e.id).0 within) is
 
-    pub reached-near : (id : List ℕ) → is_among from id ≡ true → (e : ElementValue) → Contains list e → is_within 3 list id e ≡ true → is_among to e.id ≡ true
+    pub reached-near : (id : List ℕ) → is_among from id ≡ true → (e : ElementValue) → Contains list e
+        → is_within 3 list id e ≡ true → is_among to e.id ≡ true
     reached-near id is =
         on reached.two to reached.third two 2 id
         (on reached.one reached.two reached.second one 1 id
         (on from reached.one reached.first has 0 id (λ e among within. own from id true is e within)))
 
-    pub far-back : (id : List ℕ) → is_among to id ≡ false → (e : ElementValue) → Contains list e → is_within 3 list id e ≡ true → is_among from e.id ≡ false
+    pub far-back : (id : List ℕ) → is_among to id ≡ false → (e : ElementValue) → Contains list e
+        → is_within 3 list id e ≡ true → is_among from e.id ≡ false
     far-back id is =
         back from reached.one reached.first has 2 id
         (back reached.one reached.two reached.second one 1 id
         (back reached.two to reached.third two 0 id (λ e among within. own to id false is e within)))
 
     -- the frames that are named near them are among what surrounds them
-    pub surrounded-near : AreSurrounded live news from to → (id : List ℕ) → is_among from id ≡ true → HasAllNear (λ (e : ElementValue). is_among to e.id) list id
+    pub surrounded-near : AreSurrounded live news from to → (id : List ℕ) → is_among from id ≡ true
+        → HasAllNear (λ (e : ElementValue). is_among to e.id) list id
     surrounded-near surrounded id is = record {
       linked = all-linked (λ (e : ElementValue). is_among to e.id) list id (reached-near id is);
       framed = λ e frame at' names there is_one.
@@ -132,8 +149,11 @@ module _ (live news list : List ElementValue) (start : List (List ℕ)) (started
           by e frame.id near names (are e found.0);
     }
       where
-        by : (e : ElementValue) (frame : List ℕ) → is_among from e.id ≡ true → e.frame ≡ Some frame → IsOneOf live e ⊎ IsOneOf news e → is_among to frame ≡ true
+        by : (e : ElementValue) (frame : List ℕ) → is_among from e.id ≡ true → e.frame ≡ Some frame → IsOneOf live e
+            ⊎ IsOneOf news e → is_among to frame ≡ true
         by e frame near names (inl of) =
-            surrounded.frames of.0 frame of.1 (sym (ap (λ (x : ElementValue). is_among from x.id) of.2) ∙ near) (sym (ap (λ (x : ElementValue). x.frame) of.2) ∙ names)
+            surrounded.frames of.0 frame of.1 (sym (ap (λ (x : ElementValue). is_among from x.id) of.2)
+            ∙ near) (sym (ap (λ (x : ElementValue). x.frame) of.2) ∙ names)
         by e frame near names (inr of) =
-            surrounded.new_frames of.0 frame of.1 (sym (ap (λ (x : ElementValue). is_among from x.id) of.2) ∙ near) (sym (ap (λ (x : ElementValue). x.frame) of.2) ∙ names)
+            surrounded.new_frames of.0 frame of.1 (sym (ap (λ (x : ElementValue). is_among from x.id) of.2)
+            ∙ near) (sym (ap (λ (x : ElementValue). x.frame) of.2) ∙ names)

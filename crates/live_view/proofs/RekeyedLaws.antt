@@ -23,14 +23,16 @@ use Rattle.live_view.proofs.OrderedLaws.{map-insert, map-remove}
 use Rattle.live_view.proofs.RunLaws.{rises-below, cut-without, cut-count, part-exchanged, none-repaired, split-all, all-without}
 
 -- ---- other keys from a place on
-pub others-rekeyed : (start : ℕ) (keys : List (List ℕ)) (es : List ElementValue) → map without_index (rekeyed start keys es) ≡ map without_index es
+pub others-rekeyed : (start : ℕ) (keys : List (List ℕ)) (es : List ElementValue)
+    → map without_index (rekeyed start keys es) ≡ map without_index es
 others-rekeyed zero keys [] = refl
 others-rekeyed zero [] (e ∷ es) = refl
 others-rekeyed zero (key ∷ keys) (e ∷ es) = ap (λ xs. without_index e ∷ xs) (others-rekeyed zero keys es)
 others-rekeyed (suc start) keys [] = refl
 others-rekeyed (suc start) keys (e ∷ es) = ap (λ xs. without_index e ∷ xs) (others-rekeyed start keys es)
 
-pub ids-rekeyed : (start : ℕ) (keys : List (List ℕ)) (es : List ElementValue) → ids_of (rekeyed start keys es) ≡ ids_of es
+pub ids-rekeyed : (start : ℕ) (keys : List (List ℕ)) (es : List ElementValue)
+    → ids_of (rekeyed start keys es) ≡ ids_of es
 ids-rekeyed zero keys [] = refl
 ids-rekeyed zero [] (e ∷ es) = refl
 ids-rekeyed zero (key ∷ keys) (e ∷ es) = ap (λ xs. e.id ∷ xs) (ids-rekeyed zero keys es)
@@ -38,24 +40,29 @@ ids-rekeyed (suc start) keys [] = refl
 ids-rekeyed (suc start) keys (e ∷ es) = ap (λ xs. e.id ∷ xs) (ids-rekeyed start keys es)
 
 pub indices-rekeyed : (start : ℕ) (keys : List (List ℕ)) (es : List ElementValue) → start + length keys ≤ length es
-    → map index_of (rekeyed start keys es) ≡ take start (map index_of es) ++ (map Some keys ++ drop (start + length keys) (map index_of es))
+    → map index_of (rekeyed start keys es) ≡ take start (map index_of es)
+    ++ (map Some keys ++ drop (start + length keys) (map index_of es))
 indices-rekeyed zero [] [] l = refl
 indices-rekeyed zero (key ∷ keys) [] l = absurd (omega arith)
 indices-rekeyed zero [] (e ∷ es) l = refl
 indices-rekeyed zero (key ∷ keys) (e ∷ es) l =
     let n : suc (0 + length keys) ≡ 0 + suc (length keys) = omega arith in
-    ap (λ xs. Some key ∷ xs) (indices-rekeyed zero keys es (omega arith)) ∙ ap (λ m. Some key ∷ (map Some keys ++ drop m (e.index ∷ map index_of es))) n
+    ap (λ xs. Some key ∷ xs) (indices-rekeyed zero keys es (omega arith))
+    ∙ ap (λ m. Some key ∷ (map Some keys ++ drop m (e.index ∷ map index_of es))) n
 indices-rekeyed (suc start) keys [] l = absurd (omega arith)
 indices-rekeyed (suc start) keys (e ∷ es) l =
     let n : suc (start + length keys) ≡ suc start + length keys = omega arith in
-    ap (λ xs. e.index ∷ xs) (indices-rekeyed start keys es (omega arith)) ∙ ap (λ m. e.index ∷ (take start (map index_of es) ++ (map Some keys ++ drop m (e.index ∷ map index_of es)))) n
+    ap (λ xs. e.index ∷ xs) (indices-rekeyed start keys es (omega arith))
+    ∙ ap (λ m. e.index ∷ (take start (map index_of es) ++ (map Some keys ++ drop m (e.index ∷ map index_of es)))) n
 
 -- ---- parts of lists
 module _ {X : Type 0} where
-  pub parts-whole : (xs : List X) (start end' : ℕ) → start ≤ end' → xs ≡ take start xs ++ (drop start (take end' xs) ++ drop end' xs)
+  pub parts-whole : (xs : List X) (start end' : ℕ) → start ≤ end'
+      → xs ≡ take start xs ++ (drop start (take end' xs) ++ drop end' xs)
   parts-whole xs start end' l =
       sym (take-append-drop end' xs)
-      ∙ ap (λ ys. ys ++ drop end' xs) (sym (take-append-drop start (take end' xs)) ∙ ap (λ ys. ys ++ drop start (take end' xs)) (take-take start end' xs l))
+      ∙ ap (λ ys. ys ++ drop end' xs) (sym (take-append-drop start (take end' xs))
+      ∙ ap (λ ys. ys ++ drop start (take end' xs)) (take-take start end' xs l))
       ∙ append_assoc (take start xs) (drop start (take end' xs)) (drop end' xs)
 
   insert-left : (xs ys : List X) (i : ℕ) (x : X) → insert (xs ++ ys) (length xs + i) x ≡ xs ++ insert ys i x
@@ -121,8 +128,10 @@ module _ {X : Type 0} where
   drop-remove (y ∷ xs) zero (suc i) l = absurd (omega arith)
   drop-remove (y ∷ xs) (suc n) (suc i) l = drop-remove xs n i (omega arith)
 
-  length-part : (xs : List X) (start end' : ℕ) → start ≤ end' → end' ≤ length xs → start + length (drop start (take end' xs)) ≡ end'
-  length-part xs start end' l m = let a = length-drop start (take end' xs) in let b = length-take-le end' xs m in omega arith
+  length-part : (xs : List X) (start end' : ℕ) → start ≤ end' → end' ≤ length xs
+      → start + length (drop start (take end' xs)) ≡ end'
+  length-part xs start end' l m =
+      let a = length-drop start (take end' xs) in let b = length-take-le end' xs m in omega arith
 
   drop-parts : (xs : List X) (start end' : ℕ) → start ≤ end' → drop start (take end' xs) ++ drop end' xs ≡ drop start xs
   drop-parts xs zero end' l = take-append-drop end' xs
@@ -158,10 +167,13 @@ pub never-falls : (es : List ElementValue) → AreInSceneOrder es → NeverFall 
 never-falls [] h i j d l m = absurd (omega arith)
 never-falls (e ∷ es) h i j d l m =
     let n : length (map index_of (e ∷ es)) ≡ length (e ∷ es) = length-map (e ∷ es) index_of in
-    let at' : (k : ℕ) → k < length (map index_of (e ∷ es)) → get_or (map index_of (e ∷ es)) k d ≡ (get_or (e ∷ es) k e).index = λ k less. get_or_default (map index_of (e ∷ es)) k d e.index less ∙ get_or-map index_of (e ∷ es) k e in
+    let at' : (k : ℕ) → k < length (map index_of (e ∷ es))
+    → get_or (map index_of (e ∷ es)) k d ≡ (get_or (e ∷ es) k e).index =
+    λ k less. get_or_default (map index_of (e ∷ es)) k d e.index less ∙ get_or-map index_of (e ∷ es) k e in
     let a = get_or (e ∷ es) i e in
     let b = get_or (e ∷ es) j e in
-    subst₂ (λ x y. is_up_to x y ≡ true) (sym (at' i (omega (arith, l, m)))) (sym (at' j m)) (up-to a.index b.index a.id b.id (h i j e l (omega (arith, m, n))))
+    subst₂ (λ x y. is_up_to x y ≡ true) (sym (at' i (omega (arith, l, m)))) (sym (at' j m))
+    (up-to a.index b.index a.id b.id (h i j e l (omega (arith, m, n))))
 
 -- ---- a list may be cut where its keys rise
 none-cut : (ys : List (Option (List ℕ))) → is_cut [] ys ≡ true
@@ -169,13 +181,16 @@ none-cut [] = refl
 none-cut (None ∷ ys) = refl
 none-cut (Some key ∷ ys) = refl
 
-pub cut-first : (xs ys : List (Option (List ℕ))) (key : List ℕ) → are_below (Some key) xs ≡ true → first_of ys ≡ Some key → is_cut xs ys ≡ true
+pub cut-first : (xs ys : List (Option (List ℕ))) (key : List ℕ) → are_below (Some key) xs ≡ true
+    → first_of ys ≡ Some key → is_cut xs ys ≡ true
 cut-first xs [] key below first = cc
 cut-first xs (None ∷ ys) key below first = cc
 cut-first [] (Some k ∷ ys) key below first = refl
-cut-first (x ∷ xs) (Some k ∷ ys) key below first = let same : k ≡ key = same_Some k key first in ap (λ n. are_below (Some n) (x ∷ xs)) same ∙ below
+cut-first (x ∷ xs) (Some k ∷ ys) key below first =
+    let same : k ≡ key = same_Some k key first in ap (λ n. are_below (Some n) (x ∷ xs)) same ∙ below
 
-cut-rises : (xs ys : List (Option (List ℕ))) (first : Option (List ℕ)) → NeverFall xs → key_rises (last_of xs) first ≡ true → first_of ys ≡ first → is_cut xs ys ≡ true
+cut-rises : (xs ys : List (Option (List ℕ))) (first : Option (List ℕ)) → NeverFall xs
+    → key_rises (last_of xs) first ≡ true → first_of ys ≡ first → is_cut xs ys ≡ true
 cut-rises xs ys (Some key) never rises is = cut-first xs ys key (rises-below xs key never rises) is
 cut-rises xs ys None never rises is = by (last_of xs) rises where
   by : (o : Option (List ℕ)) → key_rises o None ≡ true → is_cut xs ys ≡ true
@@ -185,43 +200,55 @@ cut-rises xs ys None never rises is = by (last_of xs) rises where
 never-taken : (xs : List (Option (List ℕ))) (n : ℕ) → NeverFall xs → NeverFall (take n xs)
 never-taken xs n never i j d l m =
     let short = length-take n xs in
-    subst₂ (λ x y. is_up_to x y ≡ true) (sym (get_or-take n xs i d (omega (arith, l, m, short)))) (sym (get_or-take n xs j d (omega (arith, m, short))))
+    subst₂ (λ x y. is_up_to x y ≡ true) (sym (get_or-take n xs i d (omega (arith, l, m, short))))
+    (sym (get_or-take n xs j d (omega (arith, m, short))))
     (never i j d l (omega (arith, m, short)))
 
-module _ (keys : List (Option (List ℕ))) (place start : ℕ) (never : NeverFall keys) (begins : IsRunStart keys place start) where
+module _ (keys : List (Option (List ℕ))) (place start : ℕ) (never : NeverFall keys)
+    (begins : IsRunStart keys place start) where
   -- a part behind the start that begins with the key there
-  cut-start : (ys : List (Option (List ℕ))) → (0 < start → first_of ys ≡ first_of (drop start keys)) → is_cut (take start keys) ys ≡ true
+  cut-start : (ys : List (Option (List ℕ))) → (0 < start → first_of ys ≡ first_of (drop start keys))
+      → is_cut (take start keys) ys ≡ true
   cut-start ys first = by start refl where
     by : (n : ℕ) → n ≡ start → is_cut (take start keys) ys ≡ true
     by zero is = subst (λ n. is_cut (take n keys) ys ≡ true) is (none-cut ys)
     by (suc n) is =
         let more : 0 < start = omega arith in
-        cut-rises (take start keys) ys (first_of (drop start keys)) (never-taken keys start never) (begins.rises (omega arith)).1 (first more)
+        cut-rises (take start keys) ys (first_of (drop start keys)) (never-taken keys start never)
+        (begins.rises (omega arith)).1 (first more)
 
-  same-before : (f g : Option (List ℕ)) → (0 < start → f ≡ g) → repaired_below f (take start keys) ≡ repaired_below g (take start keys)
+  same-before : (f g : Option (List ℕ)) → (0 < start → f ≡ g)
+      → repaired_below f (take start keys) ≡ repaired_below g (take start keys)
   same-before f g same = by start refl where
     by : (n : ℕ) → n ≡ start → repaired_below f (take start keys) ≡ repaired_below g (take start keys)
-    by zero is = subst (λ n. repaired_below f (take n keys) ≡ repaired_below g (take n keys)) is (none-repaired f ∙ sym (none-repaired g))
+    by zero is = subst (λ n. repaired_below f (take n keys) ≡ repaired_below g (take n keys)) is (none-repaired f
+        ∙ sym (none-repaired g))
     by (suc n) is = ap (λ k. repaired_below k (take start keys)) (same (omega arith))
 
-first-insert : (xs ys : List (Option (List ℕ))) (i : ℕ) (x : Option (List ℕ)) → 0 < i → i ≤ length xs → first_of (insert xs i x ++ ys) ≡ first_of (xs ++ ys)
+first-insert : (xs ys : List (Option (List ℕ))) (i : ℕ) (x : Option (List ℕ)) → 0 < i → i ≤ length xs
+    → first_of (insert xs i x ++ ys) ≡ first_of (xs ++ ys)
 first-insert xs ys zero x h l = absurd (omega arith)
 first-insert [] ys (suc i) x h l = absurd (omega arith)
 first-insert (k ∷ xs) ys (suc i) x h l = refl
 
-first-remove : (xs ys : List (Option (List ℕ))) (i : ℕ) → 0 < i → i < length xs → first_of (remove xs i ++ ys) ≡ first_of (xs ++ ys)
+first-remove : (xs ys : List (Option (List ℕ))) (i : ℕ) → 0 < i → i < length xs
+    → first_of (remove xs i ++ ys) ≡ first_of (xs ++ ys)
 first-remove xs ys zero h l = absurd (omega arith)
 first-remove [] ys (suc i) h l = absurd (omega arith)
 first-remove (k ∷ xs) ys (suc i) h l = refl
 
 -- ---- the keys of a list with one more
-pub record AreExchanged (keys : List (Option (List ℕ))) (after : List (Option (List ℕ))) (start : ℕ) (new : List (List ℕ)) (end' : ℕ) : Type 0 where
+pub record AreExchanged (keys : List (Option (List ℕ))) (after : List (Option (List ℕ))) (start : ℕ)
+    (new : List (List ℕ)) (end' : ℕ) : Type 0 where
   pub within : end' ≤ length keys
   pub exact : repaired after ≡ take start (repaired keys) ++ (new ++ drop end' (repaired keys))
 
-module _ (keys : List (Option (List ℕ))) (place start : ℕ) (new : List (List ℕ)) (never : NeverFall keys) (all : list_all is_key_or_none keys ≡ true) where
+module _ (keys : List (Option (List ℕ))) (place start : ℕ) (new : List (List ℕ)) (never : NeverFall keys)
+    (all : list_all is_key_or_none keys ≡ true) where
   all-from : (n : ℕ) → list_all is_key_or_none (drop n keys) ≡ true
-  all-from n = (split-all is_key_or_none (take n keys) (drop n keys) (subst (λ ks. list_all is_key_or_none ks ≡ true) (sym (take-append-drop n keys)) all)).1
+  all-from n =
+      (split-all is_key_or_none (take n keys) (drop n keys)
+      (subst (λ ks. list_all is_key_or_none ks ≡ true) (sym (take-append-drop n keys)) all)).1
 
   pub exchanged-with : (key : Option (List ℕ)) → place ≤ length keys → (are : AreKeysWith keys key place start new)
       → AreExchanged keys (insert keys place key) start new are.end' × (start + length new ≡ suc are.end')
@@ -239,12 +266,16 @@ module _ (keys : List (Option (List ℕ))) (place start : ℕ) (new : List (List
       let j_in : j ≤ length W = omega (arith, before, are.behind, length_W) in
       let ins = insert W j key in
       let behind : first_of (W ++ Q) ≡ first_of (drop start keys) = ap first_of (drop-parts keys start e up) in
-      let same : 0 < start → first_of (ins ++ Q) ≡ first_of (W ++ Q) = λ more. let inner = (are.begins.rises (omega (arith, more))).0 in first-insert W Q j key (omega (arith, inner)) j_in in
+      let same : 0 < start → first_of (ins ++ Q) ≡ first_of (W ++ Q) = λ more. let inner =
+      (are.begins.rises (omega (arith, more))).0 in first-insert W Q j key (omega (arith, inner)) j_in in
       let to : insert keys place key ≡ P ++ (ins ++ Q) =
-      ap (λ ks. insert ks place key) whole ∙ ap (λ n. insert (P ++ (W ++ Q)) n key) (let p : place ≡ length P + j = omega (arith, length_P, before) in p)
+      ap (λ ks. insert ks place key) whole
+      ∙ ap (λ n. insert (P ++ (W ++ Q)) n key) (let p : place ≡ length P + j = omega (arith, length_P, before) in p)
       ∙ insert-left P (W ++ Q) j key ∙ ap (λ ks. P ++ ks) (insert-right W Q j key j_in) in
-      let next : is_cut W Q ≡ true = subst (λ ks. is_cut ks Q ≡ true) (take-append-drop j W) (cut-without (take j W) key (drop j W) Q are.repaired.cut) in
-      let keys_all : list_all is_key_or_none (P ++ (W ++ Q)) ≡ true = subst (λ ks. list_all is_key_or_none ks ≡ true) whole all in
+      let next : is_cut W Q ≡ true = subst (λ ks. is_cut ks Q ≡ true) (take-append-drop j W)
+      (cut-without (take j W) key (drop j W) Q are.repaired.cut) in
+      let keys_all : list_all is_key_or_none (P ++ (W ++ Q)) ≡ true =
+      subst (λ ks. list_all is_key_or_none ks ≡ true) whole all in
       let exchanged =
       part-exchanged P W ins Q keys_all
       (cut-start keys place start never are.begins (W ++ Q) (λ more. behind))
@@ -257,11 +288,14 @@ module _ (keys : List (Option (List ℕ))) (place start : ℕ) (new : List (List
           within = are.within;
           exact =
               ap repaired to ∙ exchanged
-              ∙ ap (λ ks. take (length P) (repaired ks) ++ (repaired_below (first_of Q) ins ++ drop (length P + length W) (repaired ks))) (sym whole)
+              ∙ ap (λ ks. take (length P) (repaired ks)
+              ++ (repaired_below (first_of Q) ins ++ drop (length P + length W) (repaired ks))) (sym whole)
               ∙ ap₂ (λ m n. take m R ++ (repaired_below (first_of Q) ins ++ drop n R)) length_P end_is
               ∙ ap (λ ks. take start R ++ (ks ++ drop e R)) (sym are.repaired.exact);
         },
-        let count = ap length are.repaired.exact ∙ cut-count ins Q are.repaired.cut (list_all-append is_key_or_none ins Q ∙ and_from (list_all is_key_or_none ins) (list_all is_key_or_none Q) are.repaired.are_keys (all-from e)) in
+        let count = ap length are.repaired.exact
+            ∙ cut-count ins Q are.repaired.cut (list_all-append is_key_or_none ins Q
+            ∙ and_from (list_all is_key_or_none ins) (list_all is_key_or_none Q) are.repaired.are_keys (all-from e)) in
             omega (arith, count, length-insert W j key, length_W),
       )
 
@@ -283,14 +317,21 @@ module _ (keys : List (Option (List ℕ))) (place start : ℕ) (new : List (List
       let key = get_or W j None in
       let split : W ≡ take j W ++ key ∷ drop (suc j) W = part-at W j None j_in in
       let behind : first_of (W ++ Q) ≡ first_of (drop start keys) = ap first_of (drop-parts keys start e up) in
-      let same : 0 < start → first_of (left ++ Q) ≡ first_of (W ++ Q) = λ more. let inner = (are.begins.rises (omega (arith, more))).0 in first-remove W Q j (omega (arith, inner)) j_in in
+      let same : 0 < start → first_of (left ++ Q) ≡ first_of (W ++ Q) = λ more. let inner =
+      (are.begins.rises (omega (arith, more))).0 in first-remove W Q j (omega (arith, inner)) j_in in
       let to : remove keys place ≡ P ++ (left ++ Q) =
-      ap (λ ks. remove ks place) whole ∙ ap (λ n. remove (P ++ (W ++ Q)) n) (let p : place ≡ length P + j = omega (arith, length_P, before) in p)
+      ap (λ ks. remove ks place) whole ∙ ap (λ n. remove (P ++ (W ++ Q)) n) (let p : place ≡ length P + j =
+      omega (arith, length_P, before) in p)
       ∙ remove-left P (W ++ Q) j ∙ ap (λ ks. P ++ ks) (remove-right W Q j j_in) in
-      let next : is_cut left Q ≡ true = cut-without (take j W) key (drop (suc j) W) Q (subst (λ ks. is_cut ks Q ≡ true) split are.cut) in
-      let keys_all : list_all is_key_or_none (P ++ (W ++ Q)) ≡ true = subst (λ ks. list_all is_key_or_none ks ≡ true) whole all in
-      let part_all : list_all is_key_or_none W ≡ true = (split-all is_key_or_none W Q (split-all is_key_or_none P (W ++ Q) keys_all).1).0 in
-      let left_all : list_all is_key_or_none left ≡ true = all-without is_key_or_none (take j W) key (drop (suc j) W) (subst (λ ks. list_all is_key_or_none ks ≡ true) split part_all) in
+      let next : is_cut left Q ≡ true =
+      cut-without (take j W) key (drop (suc j) W) Q (subst (λ ks. is_cut ks Q ≡ true) split are.cut) in
+      let keys_all : list_all is_key_or_none (P ++ (W ++ Q)) ≡ true =
+      subst (λ ks. list_all is_key_or_none ks ≡ true) whole all in
+      let part_all : list_all is_key_or_none W ≡ true =
+      (split-all is_key_or_none W Q (split-all is_key_or_none P (W ++ Q) keys_all).1).0 in
+      let left_all : list_all is_key_or_none left ≡ true =
+      all-without is_key_or_none (take j W) key (drop (suc j) W)
+      (subst (λ ks. list_all is_key_or_none ks ≡ true) split part_all) in
       let exchanged =
       part-exchanged P W left Q keys_all
       (cut-start keys place start never are.begins (W ++ Q) (λ more. behind))
@@ -303,11 +344,13 @@ module _ (keys : List (Option (List ℕ))) (place start : ℕ) (new : List (List
           within = are.within;
           exact =
               ap repaired to ∙ exchanged
-              ∙ ap (λ ks. take (length P) (repaired ks) ++ (repaired_below (first_of Q) left ++ drop (length P + length W) (repaired ks))) (sym whole)
+              ∙ ap (λ ks. take (length P) (repaired ks)
+              ++ (repaired_below (first_of Q) left ++ drop (length P + length W) (repaired ks))) (sym whole)
               ∙ ap₂ (λ m n. take m R ++ (repaired_below (first_of Q) left ++ drop n R)) length_P end_is
               ∙ ap (λ ks. take start R ++ (ks ++ drop e R)) (sym are.exact);
         },
-        let count = ap length are.exact ∙ cut-count left Q next (list_all-append is_key_or_none left Q ∙ and_from (list_all is_key_or_none left) (list_all is_key_or_none Q) left_all (all-from e)) in
+        let count = ap length are.exact ∙ cut-count left Q next (list_all-append is_key_or_none left Q
+            ∙ and_from (list_all is_key_or_none left) (list_all is_key_or_none Q) left_all (all-from e)) in
             omega (arith, count, length-remove W j j_in, length_W),
       )
 
@@ -322,22 +365,28 @@ map-drop f zero xs = refl
 map-drop f (suc n) [] = refl
 map-drop f (suc n) (x ∷ xs) = map-drop f n xs
 
-joined-keys : (R new : List (List ℕ)) (start end' : ℕ) → take start (map Some R) ++ (map Some new ++ drop end' (map Some R)) ≡ map Some (take start R ++ (new ++ drop end' R))
+joined-keys : (R new : List (List ℕ)) (start end' : ℕ)
+    → take start (map Some R) ++ (map Some new ++ drop end' (map Some R))
+    ≡ map Some (take start R ++ (new ++ drop end' R))
 joined-keys R new start end' =
     ap₂ (λ xs ys. xs ++ (map Some new ++ ys)) (map-take Some start R) (map-drop Some end' R)
     ∙ ap (λ xs. map Some (take start R) ++ xs) (sym (map-append Some new (drop end' R)))
     ∙ sym (map-append Some (take start R) (new ++ drop end' R))
 
-module _ (keys : List (Option (List ℕ))) (place start : ℕ) (new : List (List ℕ)) (never : NeverFall keys) (all : list_all is_key_or_none keys ≡ true)
-    (drawn : List ElementValue) (count : length drawn ≡ length keys) (indices : map index_of drawn ≡ map Some (repaired keys)) where
-  pub indices-with : (key : Option (List ℕ)) (own : ElementValue) → place ≤ length keys → AreKeysWith keys key place start new
+module _ (keys : List (Option (List ℕ))) (place start : ℕ) (new : List (List ℕ)) (never : NeverFall keys)
+    (all : list_all is_key_or_none keys ≡ true)
+    (drawn : List ElementValue) (count : length drawn ≡ length keys) (indices : map index_of drawn
+    ≡ map Some (repaired keys)) where
+  pub indices-with : (key : Option (List ℕ)) (own : ElementValue) → place ≤ length keys
+      → AreKeysWith keys key place start new
       → map index_of (rekeyed start new (insert drawn place own)) ≡ map Some (repaired (insert keys place key))
   indices-with key own short are =
       let is = exchanged-with keys place start new never all key short are in
       let e = are.end' in
       let n = length-map drawn index_of in
       let L = map index_of drawn in
-      indices-rekeyed start new (insert drawn place own) (omega (arith, is.1, are.within, count, length-insert drawn place own))
+      indices-rekeyed start new (insert drawn place own)
+      (omega (arith, is.1, are.within, count, length-insert drawn place own))
       ∙ ap₂ (λ xs m. take start xs ++ (map Some new ++ drop m xs)) (map-insert index_of drawn place own) is.1
       ∙ ap₂ (λ xs ys. xs ++ (map Some new ++ ys))
       (take-insert L start place own.index are.begins.before (omega (arith, short, count, n)))
@@ -352,42 +401,55 @@ module _ (keys : List (Option (List ℕ))) (place start : ℕ) (new : List (List
       let is = exchanged-without keys place start new never all short are in
       let e = are.end' in
       let L = map index_of drawn in
-      indices-rekeyed start new (remove drawn place) (omega (arith, is.1, are.within, count, length-remove drawn place (omega (arith, short, count))))
+      indices-rekeyed start new (remove drawn place)
+      (omega (arith, is.1, are.within, count, length-remove drawn place (omega (arith, short, count))))
       ∙ ap (λ xs. take start xs ++ (map Some new ++ drop (start + length new) xs)) (map-remove index_of drawn place)
       ∙ ap₂ (λ xs ys. xs ++ (map Some new ++ ys))
       (take-remove L start place are.begins.before)
-      (drop-remove L (start + length new) place (omega (arith, is.1, are.behind)) ∙ ap (λ m. drop m L) (let m : suc (start + length new) ≡ e = omega (arith, is.1) in m))
+      (drop-remove L (start + length new) place (omega (arith, is.1, are.behind))
+      ∙ ap (λ m. drop m L) (let m : suc (start + length new) ≡ e = omega (arith, is.1) in m))
       ∙ ap (λ xs. take start xs ++ (map Some new ++ drop e xs)) indices
       ∙ joined-keys (repaired keys) new start e
       ∙ ap (map Some) (sym is.0.exact)
 
 -- ---- one key more is set
-pub rekeyed-push : (start : ℕ) (keys : List (List ℕ)) (key : List ℕ) (es : List ElementValue) (i : ℕ) → i ≡ start + length keys
+pub rekeyed-push : (start : ℕ) (keys : List (List ℕ)) (key : List ℕ) (es : List ElementValue) (i : ℕ)
+    → i ≡ start + length keys
     → rekeyed i (key ∷ []) (rekeyed start keys es) ≡ rekeyed start (keys ++ key ∷ []) es
-rekeyed-push start keys key es i at' = ap (λ n. rekeyed n (key ∷ []) (rekeyed start keys es)) at' ∙ by start keys es where
-  nothing : (n : ℕ) (ks : List (List ℕ)) → rekeyed n ks [] ≡ []
-  nothing zero ks = refl
-  nothing (suc n) ks = refl
+rekeyed-push start keys key es i at' =
+    ap (λ n. rekeyed n (key ∷ []) (rekeyed start keys es)) at' ∙ by start keys es where
+      nothing : (n : ℕ) (ks : List (List ℕ)) → rekeyed n ks [] ≡ []
+      nothing zero ks = refl
+      nothing (suc n) ks = refl
 
-  none : (n : ℕ) (es : List ElementValue) → rekeyed n [] es ≡ es
-  none zero [] = refl
-  none zero (e ∷ es) = refl
-  none (suc n) [] = refl
-  none (suc n) (e ∷ es) = ap (λ xs. e ∷ xs) (none n es)
+      none : (n : ℕ) (es : List ElementValue) → rekeyed n [] es ≡ es
+      none zero [] = refl
+      none zero (e ∷ es) = refl
+      none (suc n) [] = refl
+      none (suc n) (e ∷ es) = ap (λ xs. e ∷ xs) (none n es)
 
-  by : (s : ℕ) (ks : List (List ℕ)) (fs : List ElementValue) → rekeyed (s + length ks) (key ∷ []) (rekeyed s ks fs) ≡ rekeyed s (ks ++ key ∷ []) fs
-  by zero [] [] = refl
-  by zero [] (f ∷ fs) = refl
-  by zero (k ∷ ks) [] = nothing (0 + length (k ∷ ks)) (key ∷ [])
-  by zero (k ∷ ks) (f ∷ fs) = ap (λ n. rekeyed n (key ∷ []) (rekeyed zero (k ∷ ks) (f ∷ fs))) (let n : 0 + length (k ∷ ks) ≡ suc (length ks) = omega arith in n) ∙ ap (λ xs. with_index f k ∷ xs) (ap (λ n. rekeyed n (key ∷ []) (rekeyed zero ks fs)) (let n : length ks ≡ 0 + length ks = omega arith in n) ∙ by zero ks fs)
-  by (suc s) ks [] = ap (λ n. rekeyed n (key ∷ []) (rekeyed (suc s) ks [])) (let n : suc s + length ks ≡ suc (s + length ks) = omega arith in n)
-  by (suc s) ks (f ∷ fs) = ap (λ n. rekeyed n (key ∷ []) (rekeyed (suc s) ks (f ∷ fs))) (let n : suc s + length ks ≡ suc (s + length ks) = omega arith in n) ∙ ap (λ xs. f ∷ xs) (by s ks fs)
+      by : (s : ℕ) (ks : List (List ℕ)) (fs : List ElementValue) → rekeyed (s + length ks) (key ∷ []) (rekeyed s ks fs)
+          ≡ rekeyed s (ks ++ key ∷ []) fs
+      by zero [] [] = refl
+      by zero [] (f ∷ fs) = refl
+      by zero (k ∷ ks) [] = nothing (0 + length (k ∷ ks)) (key ∷ [])
+      by zero (k ∷ ks) (f ∷ fs) = ap (λ n. rekeyed n (key ∷ []) (rekeyed zero (k ∷ ks) (f ∷ fs)))
+          (let n : 0 + length (k ∷ ks) ≡ suc (length ks) = omega arith in n)
+          ∙ ap (λ xs. with_index f k ∷ xs) (ap (λ n. rekeyed n (key ∷ []) (rekeyed zero ks fs)) (let n : length ks
+          ≡ 0 + length ks = omega arith in n) ∙ by zero ks fs)
+      by (suc s) ks [] = ap (λ n. rekeyed n (key ∷ []) (rekeyed (suc s) ks [])) (let n : suc s + length ks
+          ≡ suc (s + length ks) = omega arith in n)
+      by (suc s) ks (f ∷ fs) = ap (λ n. rekeyed n (key ∷ []) (rekeyed (suc s) ks (f ∷ fs))) (let n : suc s + length ks
+          ≡ suc (s + length ks) = omega arith in n) ∙ ap (λ xs. f ∷ xs) (by s ks fs)
 
-pub length-rekeyed : (start : ℕ) (keys : List (List ℕ)) (es : List ElementValue) → length (rekeyed start keys es) ≡ length es
-length-rekeyed start keys es = sym (length-map (rekeyed start keys es) (λ (e : ElementValue). e.id)) ∙ ap length (ids-rekeyed start keys es) ∙ length-map es (λ (e : ElementValue). e.id)
+pub length-rekeyed : (start : ℕ) (keys : List (List ℕ)) (es : List ElementValue)
+    → length (rekeyed start keys es) ≡ length es
+length-rekeyed start keys es = sym (length-map (rekeyed start keys es) (λ (e : ElementValue). e.id))
+    ∙ ap length (ids-rekeyed start keys es) ∙ length-map es (λ (e : ElementValue). e.id)
 
 -- the key of one element is set
-pub set-rekeyed : (es : List ElementValue) (i : ℕ) (x : ElementValue) (key : List ℕ) → x ≡ get_or es i x → i < length es → set es i (with_index x key) ≡ rekeyed i (key ∷ []) es
+pub set-rekeyed : (es : List ElementValue) (i : ℕ) (x : ElementValue) (key : List ℕ) → x ≡ get_or es i x → i < length es
+    → set es i (with_index x key) ≡ rekeyed i (key ∷ []) es
 set-rekeyed [] i x key is l = absurd (omega arith)
 set-rekeyed (e ∷ es) zero x key is l = ap (λ (y : ElementValue). with_index y key ∷ es) is ∙ none key es where
   none : (key : List ℕ) (es : List ElementValue) → with_index e key ∷ es ≡ with_index e key ∷ rekeyed zero [] es
@@ -396,13 +458,15 @@ set-rekeyed (e ∷ es) zero x key is l = ap (λ (y : ElementValue). with_index y
 set-rekeyed (e ∷ es) (suc i) x key is l = ap (λ xs. e ∷ xs) (set-rekeyed es i x key is (omega arith))
 
 -- ---- the keys that are set fit
-pub fits-with : (keys : List (Option (List ℕ))) (place start : ℕ) (new : List (List ℕ)) → NeverFall keys → list_all is_key_or_none keys ≡ true → (key : Option (List ℕ)) → place ≤ length keys
+pub fits-with : (keys : List (Option (List ℕ))) (place start : ℕ) (new : List (List ℕ)) → NeverFall keys
+    → list_all is_key_or_none keys ≡ true → (key : Option (List ℕ)) → place ≤ length keys
     → AreKeysWith keys key place start new → start + length new ≤ length keys + 1
 fits-with keys place start new never all key short are =
     let is = exchanged-with keys place start new never all key short are in
     omega (arith, is.1, are.within)
 
-pub fits-without : (keys : List (Option (List ℕ))) (place start : ℕ) (new : List (List ℕ)) → NeverFall keys → list_all is_key_or_none keys ≡ true → place < length keys
+pub fits-without : (keys : List (Option (List ℕ))) (place start : ℕ) (new : List (List ℕ)) → NeverFall keys
+    → list_all is_key_or_none keys ≡ true → place < length keys
     → AreKeysWithout keys place start new → start + length new + 1 ≤ length keys
 fits-without keys place start new never all short are =
     let is = exchanged-without keys place start new never all short are in

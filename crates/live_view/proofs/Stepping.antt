@@ -27,43 +27,54 @@ one_only id x h = (bytes_eq-Decides x id).0 (by (bytes_eq x id) h) where
 
 -- what links to an id names it, and so does what names it as its frame
 links-named : (id : List ℕ) (e : ElementValue) → links_to id e ≡ true → names_id id e ≡ true
-links-named id e h = elim (or_cases (is_id id e.container) (end_names id e.start_binding || end_names id e.end_binding) h) [
-  | inl is ↦ or_left (is_id id e.container || is_id id e.frame) _ (or_left (is_id id e.container) (is_id id e.frame) is)
-  | inr is ↦ or_right (is_id id e.container || is_id id e.frame) _ is
-]
+links-named id e h =
+    elim (or_cases (is_id id e.container) (end_names id e.start_binding || end_names id e.end_binding) h) [
+      | inl is ↦ or_left (is_id id e.container || is_id id e.frame) _
+          (or_left (is_id id e.container) (is_id id e.frame) is)
+      | inr is ↦ or_right (is_id id e.container || is_id id e.frame) _ is
+    ]
 
 framed-named : (id : List ℕ) (e : ElementValue) → e.frame ≡ Some id → names_id id e ≡ true
 framed-named id e h =
-    or_left (is_id id e.container || is_id id e.frame) _ (or_right (is_id id e.container) (is_id id e.frame) (ap (is_id id) h ∙ (bytes_eq-Decides id id).1 refl))
+    or_left (is_id id e.container || is_id id e.frame) _
+    (or_right (is_id id e.container) (is_id id e.frame) (ap (is_id id) h ∙ (bytes_eq-Decides id id).1 refl))
 
 -- all that name an id are among the namers of its rows
-namer-among : (live : List ElementValue) (rows : List LinkRow) (id : List ℕ) (e : ElementValue) → are_rising (ids_of live) ≡ true → HaveRowsOf live rows
+namer-among : (live : List ElementValue) (rows : List LinkRow) (id : List ℕ) (e : ElementValue)
+    → are_rising (ids_of live) ≡ true → HaveRowsOf live rows
     → Contains live e → names_id id e ≡ true → is_among (map namer_of (filter (is_for id) rows)) e.id ≡ true
 namer-among live rows id e rising have c names =
-    list_any-map namer_of (bytes_eq e.id) (filter (is_for id) rows) ∙ list_any-filter (is_for id) (λ (row : LinkRow). bytes_eq e.id row.namer) rows
+    list_any-map namer_of (bytes_eq e.id) (filter (is_for id) rows)
+    ∙ list_any-filter (is_for id) (λ (row : LinkRow). bytes_eq e.id row.namer) rows
     ∙ have id e.id ∙ ap (λ o. option_map_or (names_id id) o false) (member None None live e rising c) ∙ names
 
-pub linking-among : (live : List ElementValue) (rows : List LinkRow) (id : List ℕ) (e : ElementValue) → are_rising (ids_of live) ≡ true → HaveRowsOf live rows
+pub linking-among : (live : List ElementValue) (rows : List LinkRow) (id : List ℕ) (e : ElementValue)
+    → are_rising (ids_of live) ≡ true → HaveRowsOf live rows
     → Contains live e → links_to id e ≡ true → is_among (map namer_of (filter (is_for id) rows)) e.id ≡ true
 linking-among live rows id e rising have c links = namer-among live rows id e rising have c (links-named id e links)
 
-pub members-among : (live : List ElementValue) (rows : List LinkRow) (id : List ℕ) → are_rising (ids_of live) ≡ true → HaveRowsOf live rows
+pub members-among : (live : List ElementValue) (rows : List LinkRow) (id : List ℕ) → are_rising (ids_of live) ≡ true
+    → HaveRowsOf live rows
     → HasMembers live (map namer_of (filter (is_for id) rows)) id
 members-among live rows id rising have e c names = namer-among live rows id e rising have c (framed-named id e names)
 
-pub neighbours : (live : List ElementValue) (id : List ℕ) (old mid new : List (List ℕ)) → are_rising (ids_of live) ≡ true
+pub neighbours : (live : List ElementValue) (id : List ℕ) (old mid new : List (List ℕ))
+    → are_rising (ids_of live) ≡ true
     → ((x : List ℕ) → is_among old x ≡ true → is_among mid x ≡ true)
     → ((e : ElementValue) (x : List ℕ) → element_of live id ≡ Some e → links_to x e ≡ true → is_among mid x ≡ true)
     → ((x : List ℕ) → is_among mid x ≡ true → is_among new x ≡ true)
-    → ((e : ElementValue) → Contains live e → links_to id e ≡ true → is_among new e.id ≡ true) → HaveStepped live (id ∷ []) old new
+    → ((e : ElementValue) → Contains live e → links_to id e ≡ true → is_among new e.id ≡ true)
+    → HaveStepped live (id ∷ []) old new
 neighbours live id old mid new rising kept linked later linking = record {
   kept = λ x h. later x (kept x h);
-  linked = λ e x c own links. later x (linked e x (ap (element_of live) (sym (one_only id e.id own)) ∙ member None None live e rising c) links);
+  linked = λ e x c own links. later x (linked e x (ap (element_of live) (sym (one_only id e.id own))
+      ∙ member None None live e rising c) links);
   linking = λ e x c own links. linking e c (ap (λ n. links_to n e) (sym (one_only id x own)) ∙ links);
 }
 
 -- ---- from one id more
-pub stepped-none : (live : List ElementValue) (from to : List (List ℕ)) → ((x : List ℕ) → is_among to x ≡ is_among from x) → HaveStepped live [] from to
+pub stepped-none : (live : List ElementValue) (from to : List (List ℕ))
+    → ((x : List ℕ) → is_among to x ≡ is_among from x) → HaveStepped live [] from to
 stepped-none live from to same = record {
   kept = λ x h. same x ∙ h;
   linked = λ e x c own links. cc;
@@ -73,20 +84,26 @@ stepped-none live from to same = record {
 among-more : (ids : List (List ℕ)) (i : ℕ) (id x : List ℕ) → i < length ids → id ≡ get_or ids i id
     → is_among (take (i + 1) ids) x ≡ (is_among (take i ids) x || is_among (id ∷ []) x)
 among-more ids i id x within there =
-    ap (λ xs. is_among xs x) (take_more ids i id within ∙ ap (λ y. take i ids ++ y ∷ []) (sym there)) ∙ list_any-append (bytes_eq x) (take i ids) (id ∷ [])
+    ap (λ xs. is_among xs x) (take_more ids i id within ∙ ap (λ y. take i ids ++ y ∷ []) (sym there))
+    ∙ list_any-append (bytes_eq x) (take i ids) (id ∷ [])
 
-pub stepped-more : (live : List ElementValue) (ids : List (List ℕ)) (i : ℕ) (id : List ℕ) (from mid to : List (List ℕ)) → i < length ids → id ≡ get_or ids i id
-    → HaveStepped live (take i ids) from mid → HaveStepped live (id ∷ []) mid to → HaveStepped live (take (i + 1) ids) from to
+pub stepped-more : (live : List ElementValue) (ids : List (List ℕ)) (i : ℕ) (id : List ℕ)
+    (from mid to : List (List ℕ))
+    → i < length ids → id ≡ get_or ids i id
+    → HaveStepped live (take i ids) from mid → HaveStepped live (id ∷ []) mid to
+    → HaveStepped live (take (i + 1) ids) from to
 stepped-more live ids i id from mid to within there before step = record {
   kept = λ x h. step.kept x (before.kept x h);
-  linked = λ e x c own links. elim (or_cases (is_among (take i ids) e.id) (is_among (id ∷ []) e.id) (sym (more e.id) ∙ own)) [
-    | inl first ↦ step.kept x (before.linked e x c first links)
-    | inr last ↦ step.linked e x c last links
-  ];
-  linking = λ e x c own links. elim (or_cases (is_among (take i ids) x) (is_among (id ∷ []) x) (sym (more x) ∙ own)) [
-    | inl first ↦ step.kept e.id (before.linking e x c first links)
-    | inr last ↦ step.linking e x c last links
-  ];
+  linked = λ e x c own links. elim (or_cases (is_among (take i ids) e.id) (is_among (id ∷ []) e.id) (sym (more e.id)
+      ∙ own)) [
+        | inl first ↦ step.kept x (before.linked e x c first links)
+        | inr last ↦ step.linked e x c last links
+      ];
+  linking =
+      λ e x c own links. elim (or_cases (is_among (take i ids) x) (is_among (id ∷ []) x) (sym (more x) ∙ own)) [
+        | inl first ↦ step.kept e.id (before.linking e x c first links)
+        | inr last ↦ step.linking e x c last links
+      ];
 }
   where
     more : (x : List ℕ) → is_among (take (i + 1) ids) x ≡ (is_among (take i ids) x || is_among (id ∷ []) x)
@@ -94,63 +111,89 @@ stepped-more live ids i id from mid to within there before step = record {
 
 -- ---- what links to an id, one namer more
 abbrev pub LinkAmong : List ElementValue → List ℕ → List (List ℕ) → List (List ℕ) → Type 0
-LinkAmong live id namers ids = (e : ElementValue) → Contains live e → links_to id e ≡ true → is_among namers e.id ≡ true → is_among ids e.id ≡ true
+LinkAmong live id namers ids =
+    (e : ElementValue) → Contains live e → links_to id e ≡ true → is_among namers e.id ≡ true
+    → is_among ids e.id ≡ true
 
-pub linking-more : (live : List ElementValue) (id : List ℕ) (namers : List (List ℕ)) (i : ℕ) (namer : List ℕ) (old new : List (List ℕ)) → are_rising (ids_of live) ≡ true
+pub linking-more : (live : List ElementValue) (id : List ℕ) (namers : List (List ℕ)) (i : ℕ) (namer : List ℕ)
+    (old new : List (List ℕ)) → are_rising (ids_of live) ≡ true
     → i < length namers → namer ≡ get_or namers i namer → LinkAmong live id (take i namers) old
     → ((x : List ℕ) → is_among old x ≡ true → is_among new x ≡ true)
-    → ((e : ElementValue) → element_of live namer ≡ Some e → links_to id e ≡ true → is_among new namer ≡ true) → LinkAmong live id (take (i + 1) namers) new
+    → ((e : ElementValue) → element_of live namer ≡ Some e → links_to id e ≡ true → is_among new namer ≡ true)
+    → LinkAmong live id (take (i + 1) namers) new
 linking-more live id namers i namer old new rising within there before kept linking e c links own =
-    elim (or_cases (is_among (take i namers) e.id) (is_among (namer ∷ []) e.id) (sym (among-more namers i namer e.id within there) ∙ own)) [
+    elim (or_cases (is_among (take i namers) e.id) (is_among (namer ∷ []) e.id)
+    (sym (among-more namers i namer e.id within there) ∙ own)) [
       | inl first ↦ kept e.id (before e c links first)
       | inr last ↦
           let same : e.id ≡ namer = one_only namer e.id last in
-          ap (is_among new) same ∙ linking e (ap (element_of live) (sym same) ∙ member None None live e rising c) links
+          ap (is_among new) same ∙ linking e (ap (element_of live) (sym same) ∙ member None None live e rising c)
+          links
     ]
 
 -- ---- frames that are named, of one id or element more
 pub frames-none : (live : List ElementValue) (to : List (List ℕ)) → HaveFrames live [] to
 frames-none live to e id c own names = cc
 
-pub frames-more : (live : List ElementValue) (ids : List (List ℕ)) (i : ℕ) (id : List ℕ) (old new : List (List ℕ)) → are_rising (ids_of live) ≡ true
+pub frames-more : (live : List ElementValue) (ids : List (List ℕ)) (i : ℕ) (id : List ℕ) (old new : List (List ℕ))
+    → are_rising (ids_of live) ≡ true
     → i < length ids → id ≡ get_or ids i id → HaveFrames live (take i ids) old
     → ((x : List ℕ) → is_among old x ≡ true → is_among new x ≡ true)
-    → ((e : ElementValue) (frame : List ℕ) → element_of live id ≡ Some e → e.frame ≡ Some frame → is_among new frame ≡ true) → HaveFrames live (take (i + 1) ids) new
+    → ((e : ElementValue) (frame : List ℕ) → element_of live id ≡ Some e → e.frame ≡ Some frame
+    → is_among new frame ≡ true) → HaveFrames live (take (i + 1) ids) new
 frames-more live ids i id old new rising within there before kept named e frame c own names =
-    elim (or_cases (is_among (take i ids) e.id) (is_among (id ∷ []) e.id) (sym (among-more ids i id e.id within there) ∙ own)) [
+    elim (or_cases (is_among (take i ids) e.id) (is_among (id ∷ []) e.id)
+    (sym (among-more ids i id e.id within there)
+    ∙ own)) [
       | inl first ↦ kept frame (before e frame c first names)
-      | inr last ↦ named e frame (ap (element_of live) (sym (one_only id e.id last)) ∙ member None None live e rising c) names
+      | inr last ↦ named e frame (ap (element_of live) (sym (one_only id e.id last))
+          ∙ member None None live e rising c) names
     ]
 
 abbrev pub HasFrame : List (List ℕ) → ElementValue → Type 0
 HasFrame ids e = (frame : List ℕ) → e.frame ≡ Some frame → is_among ids frame ≡ true
 
-pub frames_of-more : (elements : List ElementValue) (i : ℕ) (e : ElementValue) (old new : List (List ℕ)) → i < length elements → e ≡ get_or elements i e → All (HasFrame old) (take i elements)
-    → ((x : List ℕ) → is_among new x ≡ (is_id x e.frame || is_among old x)) → All (HasFrame new) (take (i + 1) elements)
+pub frames_of-more : (elements : List ElementValue) (i : ℕ) (e : ElementValue) (old new : List (List ℕ))
+    → i < length elements → e ≡ get_or elements i e → All (HasFrame old) (take i elements)
+    → ((x : List ℕ) → is_among new x ≡ (is_id x e.frame || is_among old x))
+    → All (HasFrame new) (take (i + 1) elements)
 frames_of-more elements i e old new within there before are =
     All-more (HasFrame new) elements i e within
-    (All-weaker (HasFrame old) (HasFrame new) (λ f has frame names. are frame ∙ or_right (is_id frame e.frame) (is_among old frame) (has frame names)) (take i elements) before)
-    (subst (HasFrame new) there (λ frame names. are frame ∙ or_left (is_id frame e.frame) (is_among old frame) (ap (is_id frame) names ∙ (bytes_eq-Decides frame frame).1 refl)))
+    (All-weaker (HasFrame old) (HasFrame new) (λ f has frame names. are frame
+    ∙ or_right (is_id frame e.frame) (is_among old frame) (has frame names)) (take i elements) before)
+    (subst (HasFrame new) there (λ frame names. are frame
+    ∙ or_left (is_id frame e.frame) (is_among old frame) (ap (is_id frame) names
+    ∙ (bytes_eq-Decides frame frame).1 refl)))
 
 -- ---- what elements frame no more, or anew, of one element more
-pub stays-kept : (live : List ElementValue) (old new : List (List ℕ)) → ((x : List ℕ) → is_among old x ≡ true → is_among new x ≡ true) → (e : ElementValue) → StaysFrame live old e → StaysFrame live new e
+pub stays-kept : (live : List ElementValue) (old new : List (List ℕ))
+    → ((x : List ℕ) → is_among old x ≡ true → is_among new x ≡ true) → (e : ElementValue) → StaysFrame live old e
+    → StaysFrame live new e
 stays-kept live old new kept e (inl same) = inl same
 stays-kept live old new kept e (inr has) = inr (λ m c names. kept m.id (has m c names))
 
-pub members-more : (live elements : List ElementValue) (i : ℕ) (e : ElementValue) (old new : List (List ℕ)) → i < length elements → e ≡ get_or elements i e → All (StaysFrame live old) (take i elements)
-    → ((x : List ℕ) → is_among old x ≡ true → is_among new x ≡ true) → StaysFrame live new e → All (StaysFrame live new) (take (i + 1) elements)
+pub members-more : (live elements : List ElementValue) (i : ℕ) (e : ElementValue) (old new : List (List ℕ))
+    → i < length elements → e ≡ get_or elements i e → All (StaysFrame live old) (take i elements)
+    → ((x : List ℕ) → is_among old x ≡ true → is_among new x ≡ true) → StaysFrame live new e
+    → All (StaysFrame live new) (take (i + 1) elements)
 members-more live elements i e old new within there before kept own =
     All-more (StaysFrame live new) elements i e within
     (All-weaker (StaysFrame live old) (StaysFrame live new) (stays-kept live old new kept) (take i elements) before)
     (subst (StaysFrame live new) there own)
 
 -- what began some elements begins them with more ids
-pub started-kept : (elements : List ElementValue) (old new : List (List ℕ)) → ((x : List ℕ) → is_among old x ≡ true → is_among new x ≡ true) → AreStartedBy old elements → AreStartedBy new elements
+pub started-kept : (elements : List ElementValue) (old new : List (List ℕ))
+    → ((x : List ℕ) → is_among old x ≡ true → is_among new x ≡ true) → AreStartedBy old elements
+    → AreStartedBy new elements
 started-kept elements old new kept started =
-    All-weaker (IsStartedBy old) (IsStartedBy new) (λ e is. (kept e.id is.0, λ x links. kept x (is.1 x links))) elements started
+    All-weaker (IsStartedBy old) (IsStartedBy new) (λ e is. (kept e.id is.0, λ x links. kept x (is.1 x links)))
+    elements
+    started
 
 -- what was reached is reached with more ids
-pub reached-kept : (live : List ElementValue) (from old new : List (List ℕ)) → ((x : List ℕ) → is_among old x ≡ true → is_among new x ≡ true) → HaveReached live from old → HaveReached live from new
+pub reached-kept : (live : List ElementValue) (from old new : List (List ℕ))
+    → ((x : List ℕ) → is_among old x ≡ true → is_among new x ≡ true) → HaveReached live from old
+    → HaveReached live from new
 reached-kept live from old new kept reached = record {
   one = reached.one;
   two = reached.two;
@@ -164,12 +207,20 @@ reached-kept live from old new kept reached = record {
 }
 
 -- ---- where steps begin
-pub started-more : (elements : List ElementValue) (i : ℕ) (e : ElementValue) (old mid new : List (List ℕ)) → i < length elements → e ≡ get_or elements i e → AreStartedBy old (take i elements)
-    → ((x : List ℕ) → is_among mid x ≡ (bytes_eq x e.id || is_among old x)) → ((x : List ℕ) → is_among new x ≡ (links_to x e || is_among mid x)) → AreStartedBy new (take (i + 1) elements)
+pub started-more : (elements : List ElementValue) (i : ℕ) (e : ElementValue) (old mid new : List (List ℕ))
+    → i < length elements → e ≡ get_or elements i e → AreStartedBy old (take i elements)
+    → ((x : List ℕ) → is_among mid x ≡ (bytes_eq x e.id || is_among old x))
+    → ((x : List ℕ) → is_among new x ≡ (links_to x e || is_among mid x)) → AreStartedBy new (take (i + 1) elements)
 started-more elements i e old mid new within there before first second =
     All-more (IsStartedBy new) elements i e within
-    (All-weaker (IsStartedBy old) (IsStartedBy new) (λ f is. (grown f.id is.0, λ x links. grown x (is.1 x links))) (take i elements) before)
-    (subst (IsStartedBy new) there (grown' e.id (first e.id ∙ or_left (bytes_eq e.id e.id) (is_among old e.id) ((bytes_eq-Decides e.id e.id).1 refl)), λ x links. second x ∙ or_left (links_to x e) (is_among mid x) links))
+    (All-weaker (IsStartedBy old) (IsStartedBy new) (λ f is. (grown f.id is.0, λ x links. grown x (is.1 x links)))
+    (take i elements) before)
+    (subst (IsStartedBy new) there (
+      grown' e.id (first e.id
+          ∙ or_left (bytes_eq e.id e.id) (is_among old e.id) ((bytes_eq-Decides e.id e.id).1 refl)),
+      λ x links. second x
+          ∙ or_left (links_to x e) (is_among mid x) links,
+    ))
   where
     grown' : (x : List ℕ) → is_among mid x ≡ true → is_among new x ≡ true
     grown' x h = second x ∙ or_right (links_to x e) (is_among mid x) h

@@ -12,11 +12,13 @@ AreSameButAt ids elements others =
     (id : List ℕ) → list_any (bytes_eq id) ids ≡ false
     → element_of elements id ≡ element_of others id
 
--- the element without its stamp, its file and its further members, at which no rule of what is shown looks
+-- the element without its stamp, its file and its further members, at which no rule of what is
+-- shown looks
 abbrev pub outline : ElementValue → ElementValue
 outline e = record e { version = 0; nonce = 0; updated = 0; file = None; rest = [] }
 
--- an element, with the stamp, the file and the further members of another one if it is of that one's id
+-- an element, with the stamp, the file and the further members of another one if it is of that
+-- one's id
 abbrev pub redrawn_as : ElementValue → ElementValue → ElementValue
 redrawn_as new e = record e {
   version = if bytes_eq new.id e.id then new.version else e.version;
@@ -26,8 +28,8 @@ redrawn_as new e = record e {
   rest = if bytes_eq new.id e.id then new.rest else e.rest;
 }
 
--- At one place these elements, whose ids rise, have one that differs from the new one at most in what no rule looks at,
--- and at the other what is shown of it, which becomes that element.
+-- At one place these elements, whose ids rise, have one that differs from the new one at most in
+-- what no rule looks at, and at the other what is shown of it, which becomes that element.
 pub record IsRedrawn (live : List ElementValue) (new : ElementValue) (held_at shown_at : ℕ)
     (redrawn : ElementValue) : Type 0 where
   pub ordered : are_rising (ids_of live) ≡ true

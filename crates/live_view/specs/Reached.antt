@@ -51,18 +51,20 @@ HasMembers elements ids id =
 abbrev pub is_frame_there : Option ElementValue → Bool
 is_frame_there o = option_map_or is_frame o false
 
--- An element is a frame exactly if what is held of its id is one, or else all that name it as their frame are among
--- ids.
+-- An element is a frame exactly if what is held of its id is one, or else all that name it as their
+-- frame are among ids.
 abbrev pub StaysFrame : List ElementValue → List (List ℕ) → ElementValue → Type 0
-StaysFrame live ids e = (is_frame_there (element_of live e.id) ≡ is_frame e) ⊎ HasMembers live ids e.id
+StaysFrame live ids e =
+    (is_frame_there (element_of live e.id) ≡ is_frame e) ⊎ HasMembers live ids e.id
 
 -- The frames that the elements of some ids name are among others.
 abbrev pub HaveFrames : List ElementValue → List (List ℕ) → List (List ℕ) → Type 0
 HaveFrames elements ids to = (e : ElementValue) (id : List ℕ) → Contains elements e
     → is_among ids e.id ≡ true → e.frame ≡ Some id → is_among to id ≡ true
 
--- What is needed to settle what is near as it is settled among all: what is at most three steps of links from it, and
--- the frames that it names, before and after new elements took their places, each once.
+-- What is needed to settle what is near as it is settled among all: what is at most three steps of
+-- links from it, and the frames that it names, before and after new elements took their places,
+-- each once.
 pub record AreSurrounded (live news : List ElementValue) (near wide : List (List ℕ)) : Type 0 where
   pub more : HaveReached live near wide
   pub frames : HaveFrames live near wide

@@ -33,10 +33,11 @@ names_as named namer e = bytes_eq namer e.id && names_id named e
 abbrev pub AreRowsOfAll : List ElementValue → List LinkRow → Type 0
 AreRowsOfAll elements rows =
     (named namer : List ℕ)
-    → has_row rows (record { named = named; namer = namer }) ≡ list_any (names_as named namer) elements
+    → has_row rows (record { named = named; namer = namer })
+    ≡ list_any (names_as named namer) elements
 
--- What is shown anew: the elements near the new ones, and near what one of these frames no more, or anew, settled among
--- those near these and their frames, with the keys that they are shown with.
+-- What is shown anew: the elements near the new ones, and near what one of these frames no more, or
+-- anew, settled among those near these and their frames, with the keys that they are shown with.
 pub record AreRepairs (live shown news : List ElementValue) (puts : List Put) : Type 0 where
   pub start : List (List ℕ)
   pub near : List (List ℕ)
@@ -50,8 +51,8 @@ pub record AreRepairs (live shown news : List ElementValue) (puts : List Put) : 
       (filter (λ (e : ElementValue). is_among near e.id)
       (settled (in_scene_order (filter_map (element_after live news) wide))))
 
--- A view, its elements in the order of their ids, what is shown of them, the rows of who names whom, and the ids of
--- those that may be shown otherwise than they are stored.
+-- A view, its elements in the order of their ids, what is shown of them, the rows of who names
+-- whom, and the ids of those that may be shown otherwise than they are stored.
 pub record IsLiveView (live shown : List ElementValue) (rows : List LinkRow)
     (unsettled : BTreeSet (List ℕ)) : Type 0 where
   pub view : IsView live shown

@@ -17,8 +17,8 @@ use json_text::Text;
 use std::alloc::AllocError;
 
 impl LiveView {
-    /// Makes this the view of the store, whose live elements are those that it was made of but for elements of these
-    /// ids. For want of memory it is unchanged.
+    /// Makes this the view of the store, whose live elements are those that it was made of but for
+    /// elements of these ids. For want of memory it is unchanged.
     pub fn update(&mut self, store: &Store, ids: &[Text]) -> Result<(), AllocError>
         requires { AreSameButAt ids.now self.old (live_elements store.now.elements) }
         ensures view { OnOk result (self.new ≡ live_elements store.now.elements) }
@@ -30,8 +30,8 @@ impl LiveView {
         self.renew(store)
     }
 
-    /// Makes this, which is the view of the store, the view of the store after it takes the changed elements in their
-    /// order. For want of memory it is unchanged.
+    /// Makes this, which is the view of the store, the view of the store after it takes the changed
+    /// elements in their order. For want of memory it is unchanged.
     pub fn take(&mut self, store: &Store, changed: &[Element]) -> Result<(), AllocError>
         requires { self.old ≡ live_elements store.now.elements }
         ensures view { OnOk result
@@ -96,7 +96,8 @@ impl LiveView {
         self.redraw(new)
     }
 
-    /// Follows what is stored of the changed ones' ids once these are taken, if all are found near their places.
+    /// Follows what is stored of the changed ones' ids once these are taken, if all are found near
+    /// their places.
     fn take_near(&mut self, store: &Store, changed: &[Element]) -> Result<bool, AllocError>
         requires { self.old ≡ live_elements store.now.elements }
         ensures new { result ≡ Ok true
@@ -112,8 +113,8 @@ impl LiveView {
         self.follow(&news)
     }
 
-    /// Makes this the view of the store anew, twice, so that no change near its elements copies all of it. For want of
-    /// memory it is unchanged.
+    /// Makes this the view of the store anew, twice, so that no change near its elements copies all
+    /// of it. For want of memory it is unchanged.
     fn renew(&mut self, store: &Store) -> Result<(), AllocError>
         ensures view { OnOk result (self.new ≡ live_elements store.now.elements) }
         ensures err { OnErr result (self.new ≡ self.old) }
@@ -126,8 +127,8 @@ impl LiveView {
     }
 }
 
-/// Whether a change of so many elements is followed near them: where more of the board changes, a view made anew costs
-/// less.
+/// Whether a change of so many elements is followed near them: where more of the board changes, a
+/// view made anew costs less.
 fn is_small(store: &Store, changed: usize) -> bool
     ensures { are_rising (ids_of store.now.elements) ≡ true }
 {

@@ -1,5 +1,5 @@
-//! An element that comes to a view or goes: the runs of keys around its place are repaired, what is near it is shown
-//! anew, and nothing else that is shown changes.
+//! An element that comes to a view or goes: the runs of keys around its place are repaired, what is
+//! near it is shown anew, and nothing else that is shown changes.
 
 ghost use Rattle.std.specs.Prelude.{◌≡◌, ℕ, ◌+◌, ◌<◌, ◌≤◌, [], ◌∷◌, Ok, Some, true, false, insert, length, slice_index_or, IfOk, IfSome, IsTrue, OnOk};
 ghost use Rattle.frac_keys.specs.Rising.{are_rising};
@@ -30,7 +30,8 @@ use json_text::Text;
 use links::{LinkTable, rows_of};
 use std::alloc::{AllocError, Global};
 
-/// What is shown anew where an element comes: itself, and what is near it, at the places where it is shown.
+/// What is shown anew where an element comes: itself, and what is near it, at the places where it
+/// is shown.
 #[derive(Drop)]
 struct Coming {
     own: SharedElement,
@@ -45,8 +46,8 @@ struct Around {
 }
 
 impl Kept {
-    /// With an element whose id no one has, if its place is found. Otherwise, and for want of memory, what is kept is
-    /// given up.
+    /// With an element whose id no one has, if its place is found. Otherwise, and for want of
+    /// memory, what is kept is given up.
     pub(crate) fn come(self, e: &SharedElement) -> Result<Option<Kept>, AllocError>
         requires { is_live e.now ≡ true }
         ensures { IfOk result (λ found. IfSome found (HaveReplaced self (e.now ∷ []))) }
@@ -86,8 +87,8 @@ impl Kept {
         Ok(Some(joined(live, shown, table, unsettled)))
     }
 
-    /// Without the element of an id, if its place is found. Otherwise, and for want of memory, what is kept is given
-    /// up.
+    /// Without the element of an id, if its place is found. Otherwise, and for want of memory, what
+    /// is kept is given up.
     pub(crate) fn go(self, id: &Text) -> Result<Option<Kept>, AllocError>
         ensures { IfOk result (λ found. IfSome found (HasGone self id.now)) }
     {
@@ -267,7 +268,8 @@ fn has_id(id: &Text, e: &Element) -> bool
     *id == e.id
 }
 
-/// Those of the elements that are near, but for that of one id, at the places where they are shown, if they are found.
+/// Those of the elements that are near, but for that of one id, at the places where they are shown,
+/// if they are found.
 fn puts_beside(
     alloc: Global,
     live: &Vec<SharedElement>,

@@ -40,7 +40,8 @@ pub(crate) fn picked(
     Ok(Some(all_shared(alloc, stored_elements(alloc, &news)?)?))
 }
 
-/// What is stored of the ids of the changed elements after these are taken, in the order of the ids.
+/// What is stored of the ids of the changed elements after these are taken, in the order of the
+/// ids.
 pub(crate) fn taken_of(
     alloc: Global,
     store: &Store,
@@ -62,7 +63,8 @@ fn begin_with(news: &mut Store, store: &Store, id: &Text) -> Result<(), AllocErr
         → element_after store.now.elements news.new.elements other
         ≡ element_after store.now.elements news.old.elements other) }
     ensures known { OnOk result
-        (element_of news.new.elements id.now ≡ element_after store.now.elements news.old.elements id.now) }
+        (element_of news.new.elements id.now ≡ element_after store.now.elements news.old.elements
+        id.now) }
     ensures ordered { are_rising (ids_of store.now.elements) ≡ true }
 {
     let stored = store.get(id);

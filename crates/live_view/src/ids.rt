@@ -41,7 +41,8 @@ impl Ids {
         requires { AreIds self.old.list.items self.old.seen }
         ensures are { OnOk result (AreIds self.new.list.items self.new.seen) }
         ensures ids { OnOk result ((other : Items ℕ)
-            → is_among self.new.list.items other ≡ (bytes_eq other id.now || is_among self.old.list.items other)) }
+            → is_among self.new.list.items other
+            ≡ (bytes_eq other id.now || is_among self.old.list.items other)) }
     {
         if see(&mut self.seen, id)? {
             self.list.push(id.try_clone()?)?;
@@ -54,7 +55,8 @@ impl Ids {
         requires { AreIds self.old.list.items self.old.seen }
         ensures are { OnOk result (AreIds self.new.list.items self.new.seen) }
         ensures ids { OnOk result ((other : Items ℕ)
-            → is_among self.new.list.items other ≡ (is_among ids.now other || is_among self.old.list.items other)) }
+            → is_among self.new.list.items other
+            ≡ (is_among ids.now other || is_among self.old.list.items other)) }
     {
         for id in ids {
             self.add(id)?;

@@ -19,8 +19,8 @@ use std::alloc::{AllocError, Global};
 use std::collections::BTreeSet;
 use std::marker::Model;
 
-/// Live elements, what is shown of them, and who of them names whom. Contracts see the live elements, as stored, in the
-/// order of their ids.
+/// Live elements, what is shown of them, and who of them names whom. Contracts see the live
+/// elements, as stored, in the order of their ids.
 pub(crate) struct Kept {
     /// The live elements, as stored, in the order of their ids.
     pub(crate) live: Vec<SharedElement>,
@@ -84,7 +84,8 @@ impl Kept {
     /// Its parts.
     pub(crate) fn into_parts(self) -> Parts
         ensures same { result.live.items ≡ self }
-        ensures are { IsLiveView result.live.items result.shown.items result.table.rows result.unsettled }
+        ensures are { IsLiveView result.live.items result.shown.items result.table.rows
+            result.unsettled }
     {
         let Kept {
             live,

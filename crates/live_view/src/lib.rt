@@ -1,4 +1,5 @@
-//! A view of a board that is kept under changes: it is the view made anew, and each change costs what is near it.
+//! A view of a board that is kept under changes: it is the view made anew, and each change costs
+//! what is near it.
 #![tactic(auto)]
 
 mod changes;

@@ -20,14 +20,15 @@ use std::collections::BTreeSet;
 use std::marker::Model;
 use std::mem;
 
-/// The most elements that are followed one after the other: each that comes or goes moves the tail of the arrays.
+/// The most elements that are followed one after the other: each that comes or goes moves the tail
+/// of the arrays.
 const MOST_MOVED: usize = 32;
 
-/// What a board shows, kept under changes. Contracts see the live elements that it is of, as stored, in the order of
-/// their ids.
+/// What a board shows, kept under changes. Contracts see the live elements that it is of, as
+/// stored, in the order of their ids.
 ///
-/// It is kept twice, once a change had many steps: they are made to the second one, and then both change places, so
-/// that a change that ends half-way changes nothing.
+/// It is kept twice, once a change had many steps: they are made to the second one, and then both
+/// change places, so that a change that ends half-way changes nothing.
 pub struct LiveView {
     pub(crate) kept: Kept,
     pub(crate) twin: Option<Kept>,
@@ -65,8 +66,8 @@ impl LiveView {
         }
     }
 
-    /// What is shown: the live elements in scene order, with repaired keys, and with links, frames and groups that
-    /// agree. It takes no memory.
+    /// What is shown: the live elements in scene order, with repaired keys, and with links, frames
+    /// and groups that agree. It takes no memory.
     pub fn elements(&self) -> &[SharedElement]
         ensures exact { result.now ≡ shown self.now }
         ensures keys { HaveRisingKeys result.now }
@@ -90,16 +91,16 @@ impl LiveView {
         self.kept.names()
     }
 
-    /// The ids of the live elements that may be shown otherwise than they are stored: all others are shown as they are
-    /// stored. It takes no memory.
+    /// The ids of the live elements that may be shown otherwise than they are stored: all others
+    /// are shown as they are stored. It takes no memory.
     pub fn unsettled(&self) -> &BTreeSet<Text>
         ensures { AreOthersAsStored result.now self.now (shown self.now) }
     {
         self.kept.unsettled()
     }
 
-    /// Lets an element take the place of that of its id, if they have one outline, and tells whether they do. For want
-    /// of memory nothing changes.
+    /// Lets an element take the place of that of its id, if they have one outline, and tells
+    /// whether they do. For want of memory nothing changes.
     pub(crate) fn redraw(&mut self, new: &Element) -> Result<bool, AllocError>
         ensures new { result ≡ Ok true → HasRedrawn self.old new.now self.new }
         ensures old { OnErr result (self.new ≡ self.old) }
@@ -114,8 +115,9 @@ impl LiveView {
         Ok(true)
     }
 
-    /// Follows what is stored of the ids of these elements, and tells whether it is found near their places: those that
-    /// keep their places at once, others one after the other, if they are few. For want of memory nothing changes.
+    /// Follows what is stored of the ids of these elements, and tells whether it is found near
+    /// their places: those that keep their places at once, others one after the other, if they are
+    /// few. For want of memory nothing changes.
     pub(crate) fn follow(&mut self, news: &Vec<SharedElement>) -> Result<bool, AllocError>
         requires { are_rising (ids_of news.now.items) ≡ true }
         ensures new { result ≡ Ok true → HaveFollowed self.old news.now.items self.new }
@@ -131,8 +133,8 @@ impl LiveView {
         self.follow_each(news)
     }
 
-    /// Lets elements take the places of those of their ids, if none is deleted and each is held with the same index,
-    /// and tells whether they do. For want of memory nothing changes.
+    /// Lets elements take the places of those of their ids, if none is deleted and each is held
+    /// with the same index, and tells whether they do. For want of memory nothing changes.
     fn replace(&mut self, news: &Vec<SharedElement>) -> Result<bool, AllocError>
         requires { are_rising (ids_of news.now.items) ≡ true }
         ensures new { result ≡ Ok true → HaveFollowed self.old news.now.items self.new }
@@ -148,8 +150,8 @@ impl LiveView {
         Ok(true)
     }
 
-    /// Follows elements one after the other in the twin, which then changes places with what is kept. For want of
-    /// memory nothing changes.
+    /// Follows elements one after the other in the twin, which then changes places with what is
+    /// kept. For want of memory nothing changes.
     fn follow_each(&mut self, news: &Vec<SharedElement>) -> Result<bool, AllocError>
         requires { are_rising (ids_of news.now.items) ≡ true }
         ensures new { result ≡ Ok true → HaveFollowed self.old news.now.items self.new }

@@ -21,7 +21,8 @@ pub(crate) struct Put {
     pub(crate) e: SharedElement,
 }
 
-/// The place of the element of an id among elements in the order of their ids, or that which it would have.
+/// The place of the element of an id among elements in the order of their ids, or that which it
+/// would have.
 pub(crate) fn place_of(elements: &Vec<SharedElement>, id: &Text) -> Result<usize, usize>
     ensures found { IfOk result (IsAt elements.now.items id.now) }
     ensures absent { are_rising (ids_of elements.now.items) ≡ true
@@ -62,7 +63,8 @@ pub(crate) fn shared_of<'a>(
     }
 }
 
-/// The place of what is shown of this element among the shown elements, if it is found: they stand in scene order.
+/// The place of what is shown of this element among the shown elements, if it is found: they stand
+/// in scene order.
 pub(crate) fn place_shown(
     live: &Vec<SharedElement>,
     shown: &Vec<SharedElement>,

@@ -32,8 +32,8 @@ pub(crate) fn started_by(alloc: Global, elements: &[SharedElement]) -> Result<Id
     Ok(ids)
 }
 
-/// Adds all that name one of these elements, where that is a frame and what is held of its id is none, or the other
-/// way: what it frames is framed anew, or no more.
+/// Adds all that name one of these elements, where that is a frame and what is held of its id is
+/// none, or the other way: what it frames is framed anew, or no more.
 pub(crate) fn add_members(
     ids: &mut Ids,
     elements: &Vec<SharedElement>,
@@ -46,7 +46,8 @@ pub(crate) fn add_members(
     ensures are { OnOk result (AreIds ids.new.list.items ids.new.seen) }
     ensures kept { OnOk result ((id : Items ℕ) → is_among ids.old.list.items id ≡ true
         → is_among ids.new.list.items id ≡ true) }
-    ensures members { OnOk result (All (StaysFrame live.now.items ids.new.list.items) elements.now.items) }
+    ensures members { OnOk result (All (StaysFrame live.now.items ids.new.list.items)
+        elements.now.items) }
 {
     for e in elements {
         add_members_of(ids, e.get(), live, table)?;
@@ -54,7 +55,8 @@ pub(crate) fn add_members(
     Ok(())
 }
 
-/// Adds all that name an element, where that is a frame and what is held of its id is none, or the other way.
+/// Adds all that name an element, where that is a frame and what is held of its id is none, or
+/// the other way.
 fn add_members_of(
     ids: &mut Ids,
     e: &Element,
@@ -75,7 +77,8 @@ fn add_members_of(
     ids.add_all(table.namers(&e.id))
 }
 
-/// Adds all that name an element, if it is a frame: where it comes or goes, what it frames is framed anew, or no more.
+/// Adds all that name an element, if it is a frame: where it comes or goes, what it frames is
+/// framed anew, or no more.
 pub(crate) fn add_framed(
     ids: &mut Ids,
     e: &Element,
@@ -126,8 +129,8 @@ pub(crate) fn reached(
     stepped(alloc, &two, live, table)
 }
 
-/// What is needed to settle what is near: what is at most three steps of links from it, and the frames that it names,
-/// before and after new elements took their places.
+/// What is needed to settle what is near: what is at most three steps of links from it, and the
+/// frames that it names, before and after new elements took their places.
 pub(crate) fn surrounded(
     alloc: Global,
     near: &Ids,
@@ -158,7 +161,8 @@ fn stepped(
     requires table { HaveRowsOf live.now.items table.now.rows }
     ensures are { IfOk result (λ ids. AreIds ids.list.items ids.seen) }
     ensures stepped { IfOk result
-        (λ ids. HaveStepped live.now.items from.now.list.items from.now.list.items ids.list.items) }
+        (λ ids. HaveStepped live.now.items from.now.list.items from.now.list.items
+        ids.list.items) }
 {
     let mut to = from.copied(alloc)?;
     for id in &from.list {
@@ -213,7 +217,8 @@ fn add_linked(alloc: Global, ids: &mut Ids, e: &Element) -> Result<(), AllocErro
     requires { AreIds ids.old.list.items ids.old.seen }
     ensures are { OnOk result (AreIds ids.new.list.items ids.new.seen) }
     ensures ids { OnOk result ((id : Items ℕ)
-        → is_among ids.new.list.items id ≡ (steps.links_to id e.now || is_among ids.old.list.items id)) }
+        → is_among ids.new.list.items id
+        ≡ (steps.links_to id e.now || is_among ids.old.list.items id)) }
 {
     let linked = linked_ids(alloc, e)?;
     ids.add_all(linked.as_slice())
@@ -318,7 +323,8 @@ fn add_frame(ids: &mut Ids, e: &Element) -> Result<(), AllocError>
     requires { AreIds ids.old.list.items ids.old.seen }
     ensures are { OnOk result (AreIds ids.new.list.items ids.new.seen) }
     ensures ids { OnOk result ((id : Items ℕ)
-        → is_among ids.new.list.items id ≡ (is_id id e.now.frame || is_among ids.old.list.items id)) }
+        → is_among ids.new.list.items id
+        ≡ (is_id id e.now.frame || is_among ids.old.list.items id)) }
 {
     match &e.frame {
         Some(frame) => ids.add(frame),

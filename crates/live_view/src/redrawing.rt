@@ -1,5 +1,5 @@
-//! An element that takes the place of one that is the same but for its stamp, its file and its further members: nothing
-//! else that is shown changes.
+//! An element that takes the place of one that is the same but for its stamp, its file and its
+//! further members: nothing else that is shown changes.
 
 ghost use Rattle.std.specs.Prelude.{◌≡◌, ◌<◌, Some, Ok, true, false, map, OnErr, length, slice_get, slice_set, IfOk, IfSome, IsTrue, IsSomeAnd, bytes_eq, vec_len};
 ghost use Rattle.live_view.specs.Changes.{outline, redrawn_as, HasRedrawn, IsRedrawn};
@@ -12,7 +12,8 @@ use elem::{Element, SharedElement, same};
 use std::alloc::{AllocError, Global};
 use std::mem;
 
-/// The new element and what is shown of it, with the places in a view at which those of its id are held and shown.
+/// The new element and what is shown of it, with the places in a view at which those of its id are
+/// held and shown.
 #[derive(Drop)]
 struct Redrawing {
     held_at: usize,
@@ -22,8 +23,8 @@ struct Redrawing {
 }
 
 impl Kept {
-    /// Lets the element take the place of that of its id, if they have one outline, and tells whether they do. For want
-    /// of memory nothing changes.
+    /// Lets the element take the place of that of its id, if they have one outline, and tells
+    /// whether they do. For want of memory nothing changes.
     pub(crate) fn redraw_as(&mut self, new: &Element) -> Result<bool, AllocError>
         ensures new { result ≡ Ok true → HasRedrawn self.old new.now self.new }
         ensures old { OnErr result (self.new ≡ self.old) }
@@ -64,7 +65,8 @@ impl Kept {
 
     /// Puts the new element in its places. It takes no memory.
     fn redraw(&mut self, redrawing: Redrawing)
-        requires { IsRedrawn self.old redrawing.held redrawing.held_at redrawing.shown_at redrawing.shown }
+        requires { IsRedrawn self.old redrawing.held redrawing.held_at redrawing.shown_at
+            redrawing.shown }
         ensures { self.new ≡ map (redrawn_as redrawing.held) self.old }
     {
         let Redrawing {
@@ -100,7 +102,8 @@ fn outline_of(alloc: Global, e: &Element) -> Result<Element, AllocError>
     Ok(new)
 }
 
-/// A copy of the shown element with the stamp, the file and the further members of the new one of its id.
+/// A copy of the shown element with the stamp, the file and the further members of the new one of
+/// its id.
 fn redrawn(shown: &SharedElement, new: &Element) -> Result<Element, AllocError>
     requires id { new.now.id ≡ shown.now.id }
     requires kind { new.now.kind ≡ shown.now.kind }

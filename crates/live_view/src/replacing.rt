@@ -1,5 +1,5 @@
-//! Elements that take the places of those of their ids, with the same indices: what is near them is shown anew, and
-//! nothing else that is shown changes.
+//! Elements that take the places of those of their ids, with the same indices: what is near them is
+//! shown anew, and nothing else that is shown changes.
 
 ghost use Rattle.std.specs.Prelude.{◌≡◌, ℕ, List as Items, Some, Ok, true, false, map, filter, filter_map, length, All, OnErr, IfOk, IfSome, IsTrue, bytes_eq, option_copied};
 ghost use Rattle.std.specs.List.{list_all, IsDistinct};
@@ -32,8 +32,8 @@ use links::{LinkRow, LinkTable, rows_of};
 use std::alloc::{AllocError, Global};
 
 impl Kept {
-    /// Lets elements take the places of those of their ids, if each is held with the same index, and tells whether they
-    /// do. For want of memory nothing changes.
+    /// Lets elements take the places of those of their ids, if each is held with the same index,
+    /// and tells whether they do. For want of memory nothing changes.
     pub(crate) fn replace_all(&mut self, news: &Vec<SharedElement>) -> Result<bool, AllocError>
         requires ordered { are_rising (ids_of news.now.items) ≡ true }
         requires live { list_all is_live news.now.items ≡ true }
@@ -129,8 +129,8 @@ pub(crate) fn rows_of_all(
     Ok(List::from_vec(rows))
 }
 
-/// What is near the new elements, and near what these frame no more or anew, at the places where it is shown, if these
-/// are found.
+/// What is near the new elements, and near what these frame no more or anew, at the places where it
+/// is shown, if these are found.
 fn shown_puts(
     alloc: Global,
     live: &Vec<SharedElement>,
@@ -211,8 +211,8 @@ fn element_after<'a>(
     }
 }
 
-/// Those of the elements that are of these ids, at the places where they are shown and with the keys of these, if they
-/// are found.
+/// Those of the elements that are of these ids, at the places where they are shown and with the
+/// keys of these, if they are found.
 pub(crate) fn puts_near(
     alloc: Global,
     live: &Vec<SharedElement>,

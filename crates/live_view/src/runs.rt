@@ -22,7 +22,8 @@ pub(crate) struct Rekeying {
     pub(crate) keys: List<Key>,
 }
 
-/// The keys around a place once an element with this index came to it, if they can be repaired apart.
+/// The keys around a place once an element with this index came to it, if they can be repaired
+/// apart.
 pub(crate) fn keys_with(
     alloc: Global,
     live: &Vec<SharedElement>,
@@ -94,8 +95,8 @@ fn repaired(
     Ok(Some(repair_part(alloc, &keys, key_at(live, shown, end))?))
 }
 
-/// Whether a part may be cut off where this place follows it: at the end, or at a key that is greater than all of the
-/// part.
+/// Whether a part may be cut off where this place follows it: at the end, or at a key that is
+/// greater than all of the part.
 #[tactic(auto, using(crate::proofs::KeyPlaces::cut_end, crate::proofs::KeyPlaces::cut_key))]
 fn may_be_cut(
     live: &Vec<SharedElement>,

@@ -17,8 +17,9 @@ impl Kept {
         *self.live.allocator()
     }
 
-    /// After it followed what is stored of the ids of these elements, all of them in their places at once, or one after
-    /// the other, if all are found near their places. Otherwise, and for want of memory, what is kept is given up.
+    /// After it followed what is stored of the ids of these elements, all of them in their places
+    /// at once, or one after the other, if all are found near their places. Otherwise, and for want
+    /// of memory, what is kept is given up.
     pub(crate) fn follow(self, news: &Vec<SharedElement>) -> Result<Option<Kept>, AllocError>
         requires { are_rising (ids_of news.now.items) ≡ true }
         ensures { IfOk result (λ found. IfSome found (HaveFollowed self news.now.items)) }
@@ -30,7 +31,8 @@ impl Kept {
         kept.follow_each(news)
     }
 
-    /// Replaces elements, if none is deleted and each is held with the same index. For want of memory nothing changes.
+    /// Replaces elements, if none is deleted and each is held with the same index. For want of
+    /// memory nothing changes.
     pub(crate) fn replace_live(&mut self, news: &Vec<SharedElement>) -> Result<bool, AllocError>
         requires { are_rising (ids_of news.now.items) ≡ true }
         ensures new { result ≡ Ok true → HaveFollowed self.old news.now.items self.new }
@@ -44,8 +46,8 @@ impl Kept {
         }
     }
 
-    /// After it followed elements one after the other, if all are found near their places. Otherwise, and for want of
-    /// memory, what is kept is given up.
+    /// After it followed elements one after the other, if all are found near their places.
+    /// Otherwise, and for want of memory, what is kept is given up.
     pub(crate) fn follow_each(self, news: &Vec<SharedElement>) -> Result<Option<Kept>, AllocError>
         requires { are_rising (ids_of news.now.items) ≡ true }
         ensures { IfOk result (λ found. IfSome found (HaveFollowed self news.now.items)) }
@@ -60,7 +62,8 @@ impl Kept {
         Ok(Some(kept))
     }
 
-    /// After it followed an element: it is replaced in its place, or the one of its id goes, and it comes if it is live.
+    /// After it followed an element: it is replaced in its place, or the one of its id goes, and it
+    /// comes if it is live.
     fn follow_one(self, new: &SharedElement) -> Result<Option<Kept>, AllocError>
         ensures { IfOk result (λ found. IfSome found (HaveFollowed self (new.now ∷ []))) }
     {

@@ -1,5 +1,5 @@
-//! The ids of elements that may be shown otherwise than they are stored: they are noted before a change, and settled
-//! after it.
+//! The ids of elements that may be shown otherwise than they are stored: they are noted before a
+//! change, and settled after it.
 
 ghost use Rattle.std.specs.Prelude.{◌≡◌, ◌+◌, ◌≤◌, ◌++◌, Some, true, false, length, take, drop, IfOk, OnOk, IsTrue};
 ghost use Rattle.std.specs.Ordering.{nat_cmp};

@@ -21,11 +21,15 @@ of-ordered id other = sym (texts_ties id other) ∙ nat_list_eq_equiv.symm id ot
 -- what an update of a set at an id says of each id
 abbrev pub Updates : Bool → List (List ℕ) → List ℕ → List (List ℕ) → Type 0
 Updates b old id new =
-    (q : List ℕ) → list_any (is_at (slice_cmp nat_cmp q)) new ≡ cond (is_at (slice_cmp nat_cmp id) q) b (list_any (is_at (slice_cmp nat_cmp q)) old)
+    (q : List ℕ) → list_any (is_at (slice_cmp nat_cmp q)) new
+    ≡ cond (is_at (slice_cmp nat_cmp id) q) b (list_any (is_at (slice_cmp nat_cmp q)) old)
 
-updated : (b : Bool) (old : List (List ℕ)) (id : List ℕ) (new : List (List ℕ)) → Updates b old id new → (q : List ℕ) → is_held new q ≡ cond (bytes_eq q id) b (is_held old q)
+updated : (b : Bool) (old : List (List ℕ)) (id : List ℕ) (new : List (List ℕ)) → Updates b old id new → (q : List ℕ)
+    → is_held new q ≡ cond (bytes_eq q id) b (is_held old q)
 updated b old id new updates q =
-    sym (held-ordered q new) ∙ updates q ∙ ap (λ own. cond own b (list_any (is_at (slice_cmp nat_cmp q)) old)) (of-ordered id q) ∙ ap (cond (bytes_eq q id) b) (held-ordered q old)
+    sym (held-ordered q new) ∙ updates q
+    ∙ ap (λ own. cond own b (list_any (is_at (slice_cmp nat_cmp q)) old)) (of-ordered id q)
+    ∙ ap (cond (bytes_eq q id) b) (held-ordered q old)
 
 or-cond : (b c : Bool) → cond b true c ≡ (b || c)
 or-cond true c = refl
@@ -35,14 +39,19 @@ and-cond : (b c : Bool) → cond b false c ≡ (not b && c)
 and-cond true c = refl
 and-cond false c = refl
 
-pub HasAdded-new : (old : List (List ℕ)) (id : List ℕ) (new : List (List ℕ)) → AreStrictlySorted new → Updates true old id new → HasAdded old id new
-HasAdded-new old id new rise updates = record { ordered = rise; each = λ q. updated true old id new updates q ∙ or-cond (bytes_eq q id) (is_held old q) }
+pub HasAdded-new : (old : List (List ℕ)) (id : List ℕ) (new : List (List ℕ)) → AreStrictlySorted new
+    → Updates true old id new → HasAdded old id new
+HasAdded-new old id new rise updates =
+    record { ordered = rise; each = λ q. updated true old id new updates q ∙ or-cond (bytes_eq q id) (is_held old q) }
 
-pub HasDropped-old : (old : List (List ℕ)) (id : List ℕ) (new : List (List ℕ)) → AreStrictlySorted new → Updates false old id new → HasDropped old id new
-HasDropped-old old id new rise updates = record { ordered = rise; each = λ q. updated false old id new updates q ∙ and-cond (bytes_eq q id) (is_held old q) }
+pub HasDropped-old : (old : List (List ℕ)) (id : List ℕ) (new : List (List ℕ)) → AreStrictlySorted new
+    → Updates false old id new → HasDropped old id new
+HasDropped-old old id new rise updates =
+    record { ordered = rise; each = λ q. updated false old id new updates q ∙ and-cond (bytes_eq q id) (is_held old q) }
 
 -- an id that is held is added by nothing
-pub HasAdded-held : (ids : List (List ℕ)) (id : List ℕ) → AreStrictlySorted ids → is_held ids id ≡ true → HasAdded ids id ids
+pub HasAdded-held : (ids : List (List ℕ)) (id : List ℕ) → AreStrictlySorted ids → is_held ids id ≡ true
+    → HasAdded ids id ids
 HasAdded-held ids id rise held = record { ordered = rise; each = each }
   where
     each : (q : List ℕ) → is_held ids q ≡ (bytes_eq q id || is_held ids q)
@@ -67,9 +76,11 @@ value-bare : (id : List ℕ) (ids : List (List ℕ)) → value_at id (bare ids) 
 unfolding bare found
 value-bare id [] = refl
 value-bare id (other ∷ ids) =
-    elim (bytes_eq id other) as (λ b. cond b (Some []) (value_at id (bare ids)) ≡ found (b || is_held ids id)) [ true ↦ refl | false ↦ value-bare id ids ]
+    elim (bytes_eq id other) as (λ b. cond b (Some []) (value_at id (bare ids)) ≡ found (b || is_held ids id))
+    [ true ↦ refl | false ↦ value-bare id ids ]
 
-pub held-unique : (ids others : List (List ℕ)) → AreStrictlySorted ids → AreStrictlySorted others → ((id : List ℕ) → is_held ids id ≡ is_held others id) → ids ≡ others
+pub held-unique : (ids others : List (List ℕ)) → AreStrictlySorted ids → AreStrictlySorted others
+    → ((id : List ℕ) → is_held ids id ≡ is_held others id) → ids ≡ others
 held-unique ids others rise also same =
     sym (names-bare ids)
     ∙ ap names_of (rising_same (bare ids) (bare others) (rw names-bare rise) (rw names-bare also)

@@ -35,7 +35,8 @@ impl Held {
         }
     }
 
-    /// Holds the id. It wants no memory where the id is held; for want of memory nothing is changed.
+    /// Holds the id. It wants no memory where the id is held; for want of memory nothing is
+    /// changed.
     pub fn add(&mut self, id: &Text) -> Result<(), AllocError>
         ensures added { OnOk result (HasAdded self.old id.now self.new) }
         ensures err { OnErr result (self.new ≡ self.old) }

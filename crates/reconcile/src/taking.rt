@@ -11,16 +11,19 @@ use elem::Element;
 use elem_store::Store;
 use std::alloc::{AllocError, Global};
 
-/// Takes the elements whose ids aren't held, in their order, and tells how many these were. Their copies and the room
-/// for them are made first, so that for want of memory the stored elements are as before.
+/// Takes the elements whose ids aren't held, in their order, and tells how many these were. Their
+/// copies and the room for them are made first, so that for want of memory the stored elements are
+/// as before.
 pub fn reconcile(
     alloc: Global,
     store: &mut Store,
     list: &[Element],
     held: &Held,
 ) -> Result<u64, AllocError>
-    // What is stored of a list of updates is then stored of the list with these elements at its end.
-    ensures stored { OnOk result ((updates : Items ElementValue) → AreStored updates store.old.elements
+    // What is stored of a list of updates is then stored of the list with these elements at its
+    // end.
+    ensures stored { OnOk result ((updates : Items ElementValue)
+        → AreStored updates store.old.elements
         → AreStored (updates ++ free_elements held.now list.now) store.new.elements) }
 
     ensures count { IfOk result (λ count. count ≡ length (free_elements held.now list.now)) }

@@ -24,7 +24,8 @@ pub agrees-same : (old now others : List ElementValue) → AgreesWith old now �
 agrees-same old now others agrees same = record {
   each = λ id e h.
       let own = agrees.each id e h in
-      let other = some-bare (element_of others id) (unstamped own.0) (sym (same id) ∙ ap (option_map unstamped) own.1) in
+      let other =
+      some-bare (element_of others id) (unstamped own.0) (sym (same id) ∙ ap (option_map unstamped) own.1) in
       (other.0, other.1, other.2 ∙ own.2);
   others = λ id e none some.
       let own = some-bare (element_of now id) (unstamped e) (same id ∙ ap (option_map unstamped) some) in
@@ -35,7 +36,8 @@ agrees-same old now others agrees same = record {
 find-unstamped : (id : List ℕ) (es : List ElementValue) → bare_of es id ≡ element_of (map unstamped es) id
 find-unstamped id [] = refl
 find-unstamped id (e ∷ es) =
-    elim (has_id id e) as (λ b. option_map unstamped (cond b (Some e) (element_of es id)) ≡ cond b (Some (unstamped e)) (element_of (map unstamped es) id)) [
+    elim (has_id id e) as (λ b. option_map unstamped (cond b (Some e) (element_of es id))
+    ≡ cond b (Some (unstamped e)) (element_of (map unstamped es) id)) [
       | true ↦ refl
       | false ↦ find-unstamped id es
     ]
@@ -48,11 +50,14 @@ ids-unstamped : (es : List ElementValue) → ids_of (map unstamped es) ≡ ids_o
 ids-unstamped [] = refl
 ids-unstamped (e ∷ es) = ap (λ ids. e.id ∷ ids) (ids-unstamped es)
 
-bare-rise : (es : List ElementValue) → are_rising (ids_of es) ≡ true → are_rising (ids_of (map unstamped (live_elements es))) ≡ true
+bare-rise : (es : List ElementValue) → are_rising (ids_of es) ≡ true
+    → are_rising (ids_of (map unstamped (live_elements es))) ≡ true
 bare-rise es rise = ap are_rising (ids-unstamped (live_elements es)) ∙ live_elements-rise es rise
 
-module _ (old now : List ElementValue) (rise : are_rising (ids_of old) ≡ true) (rise' : are_rising (ids_of now) ≡ true) (agrees : AgreesWith old now) where
-  on : (u : ElementValue) → Contains (map unstamped (live_elements old)) u → Contains (map unstamped (live_elements now)) u
+module _ (old now : List ElementValue) (rise : are_rising (ids_of old) ≡ true) (rise' : are_rising (ids_of now) ≡ true)
+    (agrees : AgreesWith old now) where
+  on : (u : ElementValue) → Contains (map unstamped (live_elements old)) u
+      → Contains (map unstamped (live_elements now)) u
   on u c =
       let of = Contains-map unstamped (live_elements old) u c in
       let own = filter-Contains is_live old of.0 of.1 in
@@ -62,14 +67,16 @@ module _ (old now : List ElementValue) (rise : are_rising (ids_of old) ≡ true)
       subst (Contains (map unstamped (live_elements now))) (other.2 ∙ of.2)
       (Contains-to_map unstamped (live_elements now) other.0 (Contains-filter is_live now other.0 there live))
 
-  back : (u : ElementValue) → Contains (map unstamped (live_elements now)) u → Contains (map unstamped (live_elements old)) u
+  back : (u : ElementValue) → Contains (map unstamped (live_elements now)) u
+      → Contains (map unstamped (live_elements old)) u
   back u c =
       let of = Contains-map unstamped (live_elements now) u c in
       let own = filter-Contains is_live now of.0 of.1 in
       let there = member None None now of.0 rise' own.0 in
       go of.0 of.2 own.1 there (element_of old of.0.id) refl
     where
-      go : (e : ElementValue) → unstamped e ≡ u → is_live e ≡ true → element_of now e.id ≡ Some e → (o : Option ElementValue) → element_of old e.id ≡ o → Contains (map unstamped (live_elements old)) u
+      go : (e : ElementValue) → unstamped e ≡ u → is_live e ≡ true → element_of now e.id ≡ Some e
+          → (o : Option ElementValue) → element_of old e.id ≡ o → Contains (map unstamped (live_elements old)) u
       go e same live there None h =
           absurd (false≢true (sym (ap not (agrees.others e.id e h there)) ∙ live))
       go e same live there (Some was) h =
@@ -78,10 +85,12 @@ module _ (old now : List ElementValue) (rise : are_rising (ids_of old) ≡ true)
           let alike : unstamped was ≡ unstamped e = sym other.2 ∙ ap unstamped here in
           let was_live : is_live was ≡ true = ap (λ (x : ElementValue). not x.deleted) alike ∙ live in
           subst (Contains (map unstamped (live_elements old))) (alike ∙ same)
-          (Contains-to_map unstamped (live_elements old) was (Contains-filter is_live old was (find-Some (has_id e.id) old was h).0 was_live))
+          (Contains-to_map unstamped (live_elements old) was
+          (Contains-filter is_live old was (find-Some (has_id e.id) old was h).0 was_live))
 
   pub live-same : map unstamped (live_elements now) ≡ map unstamped (live_elements old)
-  live-same = same_members (λ (e : ElementValue). e.id) (map unstamped (live_elements now)) (map unstamped (live_elements old)) (bare-rise now rise') (bare-rise old rise) back on
+  live-same = same_members (λ (e : ElementValue). e.id) (map unstamped (live_elements now))
+      (map unstamped (live_elements old)) (bare-rise now rise') (bare-rise old rise) back on
 
   pub looks-same : map unstamped (shown (live_elements now)) ≡ map unstamped (shown (live_elements old))
   looks-same = stamps-play_no_part (live_elements now) (live_elements old) live-same

@@ -1,4 +1,5 @@
--- Undoing a change of an element that is as after it, but for the stamp, makes the element before it, but for the stamp.
+-- Undoing a change of an element that is as after it, but for the stamp, makes the element before it, but for the
+-- stamp.
 use Rattle.std.proofs.Common.{◌≡◌, ℕ, Bool, true, false, cond, List, ◌++◌, filter, Option, Some, None, bytes_eq, if◌then◌else◌, inl, inr, refl, sym, ap, ◌∙◌}
 use Rattle.std.proofs.lemmas.Bool.{cases_Bool, false≢true}
 use Rattle.json_text.proofs.CallerLemmas.{bytes_eq-true, bytes_eq-same}
@@ -30,9 +31,11 @@ scalar-back b a = elim (cases_Bool (scalars_same b a)) [
   | inr f ↦ ap (λ same. if same then a else b) f
 ]
 
-module _ {T : Type 0} (same : T → T → Bool) (exact : (a b : T) → same a b ≡ true → a ≡ b) (itself : (a : T) → same a a ≡ true) where
+module _ {T : Type 0} (same : T → T → Bool) (exact : (a b : T) → same a b ≡ true → a ≡ b) (itself : (a : T)
+    → same a a ≡ true) where
   joined-all : (b a : List T) → joined same b a b ≡ a
-  joined-all b a = ap (λ t. if t then a else filter (stays same b a) b ++ first_occurrences same (filter (is_gained same b b) a)) (are_same-same same itself b)
+  joined-all b a = ap (λ t. if t then a else filter (stays same b a) b
+      ++ first_occurrences same (filter (is_gained same b b) a)) (are_same-same same itself b)
 
   list-back : (b a : List T) → undone_list same b a a ≡ b
   list-back b a = elim (cases_Bool (are_same same b a)) [
@@ -42,10 +45,12 @@ module _ {T : Type 0} (same : T → T → Bool) (exact : (a b : T) → same a b 
 
 -- ---- the undone element
 -- the stamp plays no part in it
-undone-unstamped : (pair : Pair) (now : ElementValue) → unstamped (undone pair now) ≡ unstamped (undone pair (unstamped now))
+undone-unstamped : (pair : Pair) (now : ElementValue) → unstamped (undone pair now)
+    ≡ unstamped (undone pair (unstamped now))
 unfolding undone
 undone-unstamped pair now =
-    elim (same_kind pair.after.kind now.kind) as (λ b. unstamped (cond b (undone_in pair now) now) ≡ unstamped (cond b (undone_in pair (unstamped now)) (unstamped now))) [
+    elim (same_kind pair.after.kind now.kind) as (λ b. unstamped (cond b (undone_in pair now) now)
+    ≡ unstamped (cond b (undone_in pair (unstamped now)) (unstamped now))) [
       | true ↦ refl
       | false ↦ refl
     ]
@@ -59,8 +64,11 @@ module _ (pair : Pair) (of : IsOfElements pair) (changed : IsChanged pair) where
       (λ n. undoes.scalars n ∙ scalar-back (scalar_of pair.before n) (scalar_of pair.after n))
       (undoes.stamp.id ∙ sym changed.id)
       (undoes.groups ∙ list-back bytes_eq bytes_eq-true bytes_eq-same pair.before.groups pair.after.groups)
-      (undoes.bound ∙ list-back same_listing_entry same_listing_entry-exact same_listing_entry-same pair.before.bound pair.after.bound)
+      (undoes.bound ∙ list-back same_listing_entry same_listing_entry-exact same_listing_entry-same pair.before.bound
+      pair.after.bound)
 
-  pub undone-back : (now : ElementValue) → unstamped now ≡ unstamped pair.after → unstamped (undone pair now) ≡ unstamped pair.before
+  pub undone-back : (now : ElementValue) → unstamped now ≡ unstamped pair.after
+      → unstamped (undone pair now) ≡ unstamped pair.before
   undone-back now same =
-      undone-unstamped pair now ∙ ap (λ e. unstamped (undone pair e)) same ∙ sym (undone-unstamped pair pair.after) ∙ after-back
+      undone-unstamped pair now ∙ ap (λ e. unstamped (undone pair e)) same ∙ sym (undone-unstamped pair pair.after)
+      ∙ after-back

@@ -26,7 +26,8 @@ use Rattle.replica.specs.State.{State}
 use Rattle.replica.proofs.StoredLaws.{ids-kept, stack-kept, carried-known, takings-elements, element-some}
 
 -- a board whose parts are these
-pub told-is : (t : Told) (stored view snapshot : List ElementValue) (stacks : Stacks) → t.stored ≡ stored → t.view ≡ view → t.snapshot ≡ snapshot → t.stacks ≡ stacks
+pub told-is : (t : Told) (stored view snapshot : List ElementValue) (stacks : Stacks) → t.stored ≡ stored
+    → t.view ≡ view → t.snapshot ≡ snapshot → t.stacks ≡ stacks
     → (let u : Told = record { stored = stored; view = view; snapshot = snapshot; stacks = stacks } in t ≡ u)
 told-is t stored view snapshot stacks p q r u = λ i. record { stored = p i; view = q i; snapshot = r i; stacks = u i }
 
@@ -53,24 +54,30 @@ nothing-told = (
 )
 
 -- ---- what is pending
-pub pending-is : (snapshot stored : List ElementValue) (entry : List Delta) → AreElements snapshot → AreElements stored → are_rising (ids_of stored) ≡ true → EntryStandsFor entry (pending snapshot stored) → IsEntryOf entry (pending snapshot stored)
-pending-is snapshot stored entry are are' rise stands = record { stands = stands; entry = pending-entry snapshot stored are are' rise }
+pub pending-is : (snapshot stored : List ElementValue) (entry : List Delta) → AreElements snapshot → AreElements stored
+    → are_rising (ids_of stored) ≡ true → EntryStandsFor entry (pending snapshot stored)
+    → IsEntryOf entry (pending snapshot stored)
+pending-is snapshot stored entry are are' rise stands =
+    record { stands = stands; entry = pending-entry snapshot stored are are' rise }
 
 -- an entry has a part exactly where it is of some pair
-entry-empty : (parts : List Delta) (pairs : List Pair) → IsEntryOf parts pairs → (parts ≡ [] → pairs ≡ []) × (pairs ≡ [] → parts ≡ [])
+entry-empty : (parts : List Delta) (pairs : List Pair) → IsEntryOf parts pairs → (parts ≡ [] → pairs ≡ [])
+    × (pairs ≡ [] → parts ≡ [])
 entry-empty [] [] is = (λ none. refl, λ none. refl)
 entry-empty [] (pair ∷ pairs) is = absurd (noted-stands [] (pair ∷ pairs) [] [] is tt)
 entry-empty (part ∷ parts) [] is = absurd (noted-stands (part ∷ parts) [] [] [] is tt)
 entry-empty (part ∷ parts) (pair ∷ pairs) is = (λ none. absurd (cc), λ none. absurd (cc))
 
-pub entry-tells : (snapshot stored : List ElementValue) (entry : List Delta) (has : Bool) → AreElements snapshot → AreElements stored → are_rising (ids_of stored) ≡ true → EntryStandsFor entry (pending snapshot stored)
+pub entry-tells : (snapshot stored : List ElementValue) (entry : List Delta) (has : Bool) → AreElements snapshot
+    → AreElements stored → are_rising (ids_of stored) ≡ true → EntryStandsFor entry (pending snapshot stored)
     → (has ≡ true → entry ≢ []) → (has ≡ false → entry ≡ []) → IsTrue has ↔ (pending snapshot stored ≢ [])
 entry-tells snapshot stored entry has are are' rise stands some none =
     let empty = entry-empty entry (pending snapshot stored) (pending-is snapshot stored entry are are' rise stands) in
     (λ t e. some t (empty.1 e), λ n. true_from_ne_false has (λ f. n (empty.0 (none f))))
 
 -- its ids are stored
-pub pending-ids : (snapshot stored : List ElementValue) (entry : List Delta) → are_rising (ids_of stored) ≡ true → EntryStandsFor entry (pending snapshot stored) → HasStoredIds stored entry
+pub pending-ids : (snapshot stored : List ElementValue) (entry : List Delta) → are_rising (ids_of stored) ≡ true
+    → EntryStandsFor entry (pending snapshot stored) → HasStoredIds stored entry
 pending-ids snapshot stored entry rise stands part c =
     let of = stands.each_part part c in
     let among = (filter-Contains is_changed (pairs_from (element_of snapshot) stored) of.0 of.1).0 in
@@ -79,7 +86,8 @@ pending-ids snapshot stored entry rise stands part c =
     subst (λ id. IsSome (element_of stored id)) same (element-some stored own.0 rise own.1)
 
 -- ---- an entry that is noted
-noted-ids : (stored : List ElementValue) (entry : List Delta) (stack : List (List Delta)) → HasStoredIds stored entry → HaveStoredIds stored stack → HaveStoredIds stored (with_entry entry stack)
+noted-ids : (stored : List ElementValue) (entry : List Delta) (stack : List (List Delta)) → HasStoredIds stored entry
+    → HaveStoredIds stored stack → HaveStoredIds stored (with_entry entry stack)
 noted-ids stored [] stack own ids entry c = ids entry c
 noted-ids stored (part ∷ parts) stack own ids entry c =
     elim (Contains-append_cases stack ((part ∷ parts) ∷ []) entry c) [
@@ -90,11 +98,13 @@ noted-ids stored (part ∷ parts) stack own ids entry c =
       ]
     ]
 
-left-ids : (stored : List ElementValue) (entry : List Delta) (stack : List (List Delta)) → HaveStoredIds stored stack → HaveStoredIds stored (redo_left entry stack)
+left-ids : (stored : List ElementValue) (entry : List Delta) (stack : List (List Delta)) → HaveStoredIds stored stack
+    → HaveStoredIds stored (redo_left entry stack)
 left-ids stored [] stack ids entry c = ids entry c
 left-ids stored (part ∷ parts) stack ids entry c = absurd (omega (arith, c.1))
 
-noted-parts : (pairs : List Pair) (s : State) → (((state.noted pairs s).undo ≡ with_pairs pairs s.undo) × ((state.noted pairs s).redo ≡ pairs_left pairs s.redo)) × ((state.noted pairs s).stored ≡ s.stored)
+noted-parts : (pairs : List Pair) (s : State) → (((state.noted pairs s).undo ≡ with_pairs pairs s.undo)
+    × ((state.noted pairs s).redo ≡ pairs_left pairs s.redo)) × ((state.noted pairs s).stored ≡ s.stored)
 noted-parts [] s = ((refl, refl), refl)
 noted-parts (pair ∷ pairs) s = ((refl, refl), refl)
 
@@ -102,19 +112,28 @@ noted-parts (pair ∷ pairs) s = ((refl, refl), refl)
 abbrev pub captured_told : List Delta → Told → Told
 captured_told entry t = record { stored = t.stored; view = t.view; snapshot = t.stored; stacks = noted entry t.stacks }
 
-pub captured-stands : (t : Told) (s : State) (entry : List Delta) → AreElements t.snapshot → AreElements t.stored → are_rising (ids_of t.stored) ≡ true → EntryStandsFor entry (pending t.snapshot t.stored) → ToldStandsFor t s → ToldStandsFor (captured_told entry t) (state.captured s)
+pub captured-stands : (t : Told) (s : State) (entry : List Delta) → AreElements t.snapshot → AreElements t.stored
+    → are_rising (ids_of t.stored) ≡ true → EntryStandsFor entry (pending t.snapshot t.stored) → ToldStandsFor t s
+    → ToldStandsFor (captured_told entry t) (state.captured s)
 captured-stands t s entry are are' rise stands st =
-    let is = subst (λ es. IsEntryOf entry (pending s.snapshot es)) st.stored (subst (λ es. IsEntryOf entry (pending es t.stored)) st.snapshot (pending-is t.snapshot t.stored entry are are' rise stands)) in
+    let is = subst (λ es. IsEntryOf entry (pending s.snapshot es)) st.stored
+    (subst (λ es. IsEntryOf entry (pending es t.stored)) st.snapshot
+    (pending-is t.snapshot t.stored entry are are' rise stands)) in
     let pairs : List Pair = pending s.snapshot s.stored in
     let parts = noted-parts pairs s in
     record {
       stored = st.stored ∙ sym parts.1;
       snapshot = st.stored;
-      undo = subst (StackStandsFor (with_entry entry t.stacks.undo)) (sym parts.0.0) (noted-stands entry pairs t.stacks.undo s.undo is st.undo);
-      redo = subst (StackStandsFor (redo_left entry t.stacks.redo)) (sym parts.0.1) (left-stands entry pairs t.stacks.redo s.redo is st.redo);
+      undo = subst (StackStandsFor (with_entry entry t.stacks.undo)) (sym parts.0.0)
+          (noted-stands entry pairs t.stacks.undo s.undo is st.undo);
+      redo = subst (StackStandsFor (redo_left entry t.stacks.redo)) (sym parts.0.1)
+          (left-stands entry pairs t.stacks.redo s.redo is st.redo);
     }
 
-pub captured-sound : (t : Told) (entry : List Delta) → t.view ≡ live_elements t.stored → are_rising (ids_of t.stored) ≡ true → AreElements t.stored → HaveStoredIds t.stored t.stacks.undo → HaveStoredIds t.stored t.stacks.redo → EntryStandsFor entry (pending t.snapshot t.stored) → IsSound (captured_told entry t)
+pub captured-sound : (t : Told) (entry : List Delta) → t.view ≡ live_elements t.stored
+    → are_rising (ids_of t.stored) ≡ true → AreElements t.stored → HaveStoredIds t.stored t.stacks.undo
+    → HaveStoredIds t.stored t.stacks.redo → EntryStandsFor entry (pending t.snapshot t.stored)
+    → IsSound (captured_told entry t)
 captured-sound t entry view rise are undo redo stands = record {
   view = view;
   stored_rise = rise;
@@ -154,11 +173,18 @@ module _ (old : Told) (list : List ElementValue) (sound : IsSound old) (are : Ar
   }
 
   taken-stands : (s : State) → ToldStandsFor old s → ToldStandsFor taken_told (state.stored_with list s)
-  taken-stands s st = record { stored = ap (taken_all list) st.stored; snapshot = st.snapshot; undo = st.undo; redo = st.redo }
+  taken-stands s st =
+      record { stored = ap (taken_all list) st.stored; snapshot = st.snapshot; undo = st.undo; redo = st.redo }
 
   -- carried into the snapshot
   abbrev carried_told : Told
-  carried_told = record { stored = stored'; view = live_elements stored'; snapshot = carried_all (takings old.stored list) old.snapshot; stacks = old.stacks }
+  carried_told = record {
+    stored = stored';
+    view = live_elements stored';
+    snapshot =
+        carried_all (takings old.stored list) old.snapshot;
+    stacks = old.stacks;
+  }
 
   carried-sound : IsSound carried_told
   carried-sound = record {
@@ -166,7 +192,8 @@ module _ (old : Told) (list : List ElementValue) (sound : IsSound old) (are : Ar
     stored_rise = stored-rise;
     snapshot_rise = carried_all-rising (takings old.stored list) old.snapshot sound.snapshot_rise;
     stored_elements = stored-elements;
-    snapshot_elements = carried_all-elements (takings old.stored list) old.snapshot (takings-elements old.stored list sound.stored_elements are) sound.snapshot_elements;
+    snapshot_elements = carried_all-elements (takings old.stored list) old.snapshot
+        (takings-elements old.stored list sound.stored_elements are) sound.snapshot_elements;
     known = carried-known old.stored list old.snapshot sound.stored_rise sound.snapshot_rise sound.known;
     undo_ids = stack-kept old.stored list old.stacks.undo sound.stored_rise sound.undo_ids;
     redo_ids = stack-kept old.stored list old.stacks.redo sound.stored_rise sound.redo_ids;
@@ -188,33 +215,46 @@ pub record Becomes (old new : Told) (after : State → State) : Type 0 where
 pub Becomes-told : (old new : Told) (after : State → State) → IsTold old → Becomes old new after → IsTold new
 Becomes-told old new after is b = (b.sound, (after is.1.0, b.stands is.1.0 is.1.1))
 
-pub taken-becomes : (old : Told) (list : List ElementValue) (new : Told) → IsSound old → HasTakenAll old list new → Becomes old new (state.stored_with list)
+pub taken-becomes : (old : Told) (list : List ElementValue) (new : Told) → IsSound old → HasTakenAll old list new
+    → Becomes old new (state.stored_with list)
 taken-becomes old list new sound h =
-    let same = sym (told-is new (taken_all list old.stored) (live_elements (taken_all list old.stored)) old.snapshot old.stacks h.stored h.view h.snapshot h.stacks) in
+    let same = sym (told-is new (taken_all list old.stored) (live_elements (taken_all list old.stored)) old.snapshot
+    old.stacks h.stored h.view h.snapshot h.stacks) in
     subst (λ t. Becomes old t (state.stored_with list)) same (record {
       sound = taken-sound old list sound h.elements;
       stands = taken-stands old list sound h.elements;
     })
 
-pub carried-becomes : (old : Told) (list : List ElementValue) (new : Told) → IsSound old → HasCarriedAll old list new → Becomes old new (state.carried_with list)
+pub carried-becomes : (old : Told) (list : List ElementValue) (new : Told) → IsSound old → HasCarriedAll old list new
+    → Becomes old new (state.carried_with list)
 carried-becomes old list new sound h =
-    let same = sym (told-is new (taken_all list old.stored) (live_elements (taken_all list old.stored)) (carried_all (takings old.stored list) old.snapshot) old.stacks h.stored h.view h.snapshot h.stacks) in
+    let same = sym (told-is new (taken_all list old.stored) (live_elements (taken_all list old.stored))
+    (carried_all (takings old.stored list) old.snapshot) old.stacks h.stored h.view h.snapshot h.stacks) in
     subst (λ t. Becomes old t (state.carried_with list)) same (record {
       sound = carried-sound old list sound h.elements;
       stands = carried-stands old list sound h.elements;
     })
 
-pub captured-becomes : (old : Told) (list : List ElementValue) (new : Told) → IsSound old → HasCaptured old list new → Becomes old new (λ s. state.captured (state.stored_with list s))
+pub captured-becomes : (old : Told) (list : List ElementValue) (new : Told) → IsSound old → HasCaptured old list new
+    → Becomes old new (λ s. state.captured (state.stored_with list s))
 captured-becomes old list new sound h =
-    let t : Told = record { stored = taken_all list old.stored; view = live_elements (taken_all list old.stored); snapshot = old.snapshot; stacks = old.stacks } in
+    let t : Told = record {
+      stored = taken_all list old.stored;
+      view = live_elements (taken_all list old.stored);
+      snapshot = old.snapshot;
+      stacks = old.stacks;
+    } in
     let was = taken-sound old list sound h.elements in
-    let same = sym (told-is new t.stored t.view t.stored (noted h.entry old.stacks) h.stored h.view h.snapshot h.stacks) in
+    let same =
+    sym (told-is new t.stored t.view t.stored (noted h.entry old.stacks) h.stored h.view h.snapshot h.stacks) in
     subst (λ u. Becomes old u (λ s. state.captured (state.stored_with list s))) same (record {
       sound = captured-sound t h.entry refl was.stored_rise was.stored_elements was.undo_ids was.redo_ids h.stands;
-      stands = λ s st. captured-stands t (state.stored_with list s) h.entry was.snapshot_elements was.stored_elements was.stored_rise h.stands (taken-stands old list sound h.elements s st);
+      stands = λ s st. captured-stands t (state.stored_with list s) h.entry was.snapshot_elements was.stored_elements
+          was.stored_rise h.stands (taken-stands old list sound h.elements s st);
     })
 
-pub given-becomes : (capture : Capture) (old : Told) (given : List ElementValue) (new : Told) → IsSound old → HasStoredGiven capture old given new → Becomes old new (state.after_given capture given)
+pub given-becomes : (capture : Capture) (old : Told) (given : List ElementValue) (new : Told) → IsSound old
+    → HasStoredGiven capture old given new → Becomes old new (state.after_given capture given)
 given-becomes Now old given new sound h = captured-becomes old given new sound h
 given-becomes Later old given new sound h = taken-becomes old given new sound h
 given-becomes Never old given new sound h = carried-becomes old given new sound h

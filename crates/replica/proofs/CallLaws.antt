@@ -9,21 +9,30 @@ use Rattle.replica.specs.Boards.{Told, StacksComeBy, GivesTaken, HasPutStep, Has
 use Rattle.replica.specs.declared.planned.PlannedStep.{PlannedStep}
 use Rattle.replica.proofs.TurnLaws.{given-taken}
 
-pub turn-comes : (direction : Direction) (stored : List ElementValue) (time nonce : ℕ) (old new : Stacks) (step : Step) → ((given : List ElementValue) → step ≡ Done given → HasTakenBack direction stored time nonce given old new) → (step ≡ Nothing → AreUnseen stored (side direction old)) → (step ≡ Nothing → new ≡ old)
+pub turn-comes : (direction : Direction) (stored : List ElementValue) (time nonce : ℕ) (old new : Stacks) (step : Step)
+    → ((given : List ElementValue) → step ≡ Done given → HasTakenBack direction stored time nonce given old new)
+    → (step ≡ Nothing → AreUnseen stored (side direction old)) → (step ≡ Nothing → new ≡ old)
     → StacksComeBy direction stored time nonce step old new
 turn-comes direction stored time nonce old new (Done given) done unseen kept = done given refl
 turn-comes direction stored time nonce old new Nothing done unseen kept = (unseen refl, kept refl)
 
 -- what is planned becomes stored
-pub planned-gives : (direction : Direction) (stored : List ElementValue) (time nonce : ℕ) (step : Step) (old new : Stacks) → StacksComeBy direction stored time nonce step old new → GivesTaken stored step
-planned-gives direction stored time nonce (Done given) old new comes = given-taken stored given time nonce (side direction old) (side (other direction) old) (side direction new) (side (other direction) new) comes
+pub planned-gives : (direction : Direction) (stored : List ElementValue) (time nonce : ℕ) (step : Step)
+    (old new : Stacks) → StacksComeBy direction stored time nonce step old new → GivesTaken stored step
+planned-gives direction stored time nonce (Done given) old new comes =
+    given-taken stored given time nonce (side direction old) (side (other direction) old) (side direction new)
+    (side (other direction) new) comes
 planned-gives direction stored time nonce Nothing old new comes = tt
 
 -- a step that was planned and put in place is one step of undo or redo
-pub turned-from : (old new : Told) (plan : PlannedStep) → IsPlannedStep old.stored old.snapshot old.stacks plan → HasPutStep old plan.step (put_step plan.history old.stacks) new → HasTurned plan.direction old plan.time plan.nonce plan.step new
+pub turned-from : (old new : Told) (plan : PlannedStep) → IsPlannedStep old.stored old.snapshot old.stacks plan
+    → HasPutStep old plan.step (put_step plan.history old.stacks) new
+    → HasTurned plan.direction old plan.time plan.nonce plan.step new
 turned-from old new plan p put = record {
   entry = p.entry;
   stands = p.stands;
-  comes = subst (StacksComeBy plan.direction old.stored plan.time plan.nonce plan.step (noted p.entry old.stacks)) (sym put.stacks) p.comes;
-  put = record { elements = put.elements; stored = put.stored; view = put.view; snapshot = put.snapshot; stacks = refl };
+  comes = subst (StacksComeBy plan.direction old.stored plan.time plan.nonce plan.step (noted p.entry old.stacks))
+      (sym put.stacks) p.comes;
+  put =
+      record { elements = put.elements; stored = put.stored; view = put.view; snapshot = put.snapshot; stacks = refl };
 }

@@ -9,7 +9,8 @@ use Rattle.board_commands.specs.declared.command.Command.{Command}
 use Rattle.effects.proofs.CallerLemmas.{given-rise, given-taken}
 use Rattle.replica.specs.Boards.{BecomeStored}
 
-pub command-given : (stored shown : List ElementValue) (command : Command) (time nonce : ℕ) (given : List ElementValue) → are_rising (ids_of stored) ≡ true → outcome stored shown command time nonce ≡ Ok given → BecomeStored stored given
+pub command-given : (stored shown : List ElementValue) (command : Command) (time nonce : ℕ) (given : List ElementValue)
+    → are_rising (ids_of stored) ≡ true → outcome stored shown command time nonce ≡ Ok given → BecomeStored stored given
 command-given stored shown command time nonce given rise told = record {
   rise = given-rise stored shown command time nonce given told rise;
   taken =

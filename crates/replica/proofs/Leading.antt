@@ -30,7 +30,8 @@ bare_of elements id = option_map unstamped (element_of elements id)
 abbrev pub SameAs : List ElementValue → List ElementValue → Type 0
 SameAs a b = (id : List ℕ) → bare_of a id ≡ bare_of b id
 
-pub some-bare : (o : Option ElementValue) (u : ElementValue) → option_map unstamped o ≡ Some u → (e : ElementValue) × (o ≡ Some e) × (unstamped e ≡ u)
+pub some-bare : (o : Option ElementValue) (u : ElementValue) → option_map unstamped o ≡ Some u → (e : ElementValue)
+    × (o ≡ Some e) × (unstamped e ≡ u)
 some-bare None u h = absurd (none-some u h)
 some-bare (Some e) u h = (e, refl, same_Some (unstamped e) u h)
 
@@ -66,13 +67,17 @@ abbrev is_its : List ℕ → Pair → Bool
 is_its id pair = bytes_eq pair.after.id id
 
 -- a pair of this id, or none
-pub pair-or_none : (pairs : List Pair) (id : List ℕ) → ((pair : Pair) × Contains pairs pair × (pair.after.id ≡ id)) ⊎ IsApart pairs id
+pub pair-or_none : (pairs : List Pair) (id : List ℕ) → ((pair : Pair) × Contains pairs pair × (pair.after.id ≡ id))
+    ⊎ IsApart pairs id
 pair-or_none pairs id = go (find (is_its id) pairs) refl
   where
-    go : (o : Option Pair) → find (is_its id) pairs ≡ o → ((pair : Pair) × Contains pairs pair × (pair.after.id ≡ id)) ⊎ IsApart pairs id
-    go (Some pair) h = let own = find-Some (is_its id) pairs pair h in inl (pair, own.0, bytes_eq-true pair.after.id id own.1)
+    go : (o : Option Pair) → find (is_its id) pairs ≡ o → ((pair : Pair) × Contains pairs pair × (pair.after.id ≡ id))
+        ⊎ IsApart pairs id
+    go (Some pair) h =
+        let own = find-Some (is_its id) pairs pair h in inl (pair, own.0, bytes_eq-true pair.after.id id own.1)
     go None h = inr (λ pair c same.
-        both_ways (is_its id pair) (list_any-false (is_its id) pairs pair (sym (is_some-find (is_its id) pairs) ∙ ap is_some h) c)
+        both_ways (is_its id pair) (list_any-false (is_its id) pairs pair (sym (is_some-find (is_its id) pairs)
+        ∙ ap is_some h) c)
         (ap (bytes_eq pair.after.id) (sym same) ∙ bytes_eq-same pair.after.id))
 
 -- it leads to one list, but for stamps
@@ -89,7 +94,8 @@ leads-once pairs a b c p q id = elim (pair-or_none pairs id) [
 -- from lists that are the same but for stamps
 pub met-same : (pair : Pair) (a b : List ElementValue) → SameAs a b → IsMet a pair → IsMet b pair
 met-same pair a b same met =
-    let own = some-bare (element_of b pair.after.id) (unstamped met.now) (sym (same pair.after.id) ∙ ap (option_map unstamped) met.found) in
+    let own = some-bare (element_of b pair.after.id) (unstamped met.now) (sym (same pair.after.id)
+    ∙ ap (option_map unstamped) met.found) in
     record { now = own.0; found = own.1; same = own.2 ∙ met.same }
 
 pub leads-from : (pairs : List Pair) (a b c : List ElementValue) → SameAs a b → Leads pairs b c → Leads pairs a c
@@ -106,8 +112,10 @@ leads-from pairs a b c same leads = record {
 abbrev pub IsVisible : List Pair → Type 0
 IsVisible pairs = (pair : Pair) × Contains pairs pair × ((pair.before.deleted ≡ false) ⊎ (pair.after.deleted ≡ false))
 
-module _ (stored : List ElementValue) (pairs : List Pair) (are : AreElements stored) (entry : IsEntry pairs) (meets : Meets pairs stored) where
-  module _ (pair : Pair) (c : Contains pairs pair) (now : ElementValue) (found : element_of stored pair.after.id ≡ Some now) (same : unstamped now ≡ unstamped pair.after) where
+module _ (stored : List ElementValue) (pairs : List Pair) (are : AreElements stored) (entry : IsEntry pairs)
+    (meets : Meets pairs stored) where
+  module _ (pair : Pair) (c : Contains pairs pair) (now : ElementValue) (found : element_of stored pair.after.id
+      ≡ Some now) (same : unstamped now ≡ unstamped pair.after) where
     back : unstamped (undone pair now) ≡ unstamped pair.before
     back = undone-back pair (entry.each pair c).0 (entry.each pair c).1 now same
 
@@ -119,13 +127,22 @@ module _ (stored : List ElementValue) (pairs : List Pair) (are : AreElements sto
         true_from_ne_false (differ now (undone pair now)) (λ f.
         own.1.differ (sym back ∙ sym (differ-false now (undone pair now) is.0 is.1 made.0 made.1 f) ∙ same))
 
-    visible : (pair.before.deleted ≡ false) ⊎ (pair.after.deleted ≡ false) → option_map_or is_visible (reverted stored pair) false ≡ true
+    visible : (pair.before.deleted ≡ false) ⊎ (pair.after.deleted ≡ false)
+        → option_map_or is_visible (reverted stored pair) false ≡ true
     visible live =
         let r : Reverted = record { now = now; undone = undone pair now } in
-        ap (λ o. option_map_or is_visible (option_map (λ (now : ElementValue). record { now = now; undone = undone pair now }) o) false) found
-        ∙ and_from (differ now (undone pair now)) (not now.deleted || not (undone pair now).deleted) differs (elim live [
-          | inl before ↦ or_right (not now.deleted) (not (undone pair now).deleted) (ap not (ap (λ (e : ElementValue). e.deleted) back ∙ before))
-          | inr after ↦ or_left (not now.deleted) (not (undone pair now).deleted) (ap not (ap (λ (e : ElementValue). e.deleted) same ∙ after))
+        ap
+        (λ o. option_map_or is_visible (option_map (λ (now : ElementValue). record {
+          now = now;
+          undone =
+              undone pair now;
+        }) o) false) found
+        ∙ and_from (differ now (undone pair now)) (not now.deleted || not (undone pair now).deleted) differs
+        (elim live [
+          | inl before ↦ or_right (not now.deleted) (not (undone pair now).deleted)
+              (ap not (ap (λ (e : ElementValue). e.deleted) back ∙ before))
+          | inr after ↦ or_left (not now.deleted) (not (undone pair now).deleted)
+              (ap not (ap (λ (e : ElementValue). e.deleted) same ∙ after))
         ])
 
   -- an entry that is met is seen
@@ -134,16 +151,20 @@ module _ (stored : List ElementValue) (pairs : List Pair) (are : AreElements sto
       let test : Pair → Bool = λ pair. option_map_or is_visible (reverted stored pair) false in
       let met = meets own.0 own.1 in
       true_from_ne_false (is_seen stored pairs) (λ f.
-      both_ways (test own.0) (list_any-false test pairs own.0 f own.1) (visible own.0 own.1 met.now met.found met.same own.2))
+      both_ways (test own.0) (list_any-false test pairs own.0 f own.1)
+      (visible own.0 own.1 met.now met.found met.same own.2))
 
   -- ---- a step
   module _ (time nonce : ℕ) (rise : are_rising (ids_of stored) ≡ true) where
-    gives-at : (e : ElementValue) → Contains (given stored time nonce pairs) e → element_of (taken_all (given stored time nonce pairs) stored) e.id ≡ Some e
+    gives-at : (e : ElementValue) → Contains (given stored time nonce pairs) e
+        → element_of (taken_all (given stored time nonce pairs) stored) e.id ≡ Some e
     gives-at e c =
-        taken-at stored (given stored time nonce pairs) e rise (given-rise stored time nonce are pairs entry.ordered) (given-taken stored time nonce are pairs) c
+        taken-at stored (given stored time nonce pairs) e rise (given-rise stored time nonce are pairs entry.ordered)
+        (given-taken stored time nonce are pairs) c
 
     -- the element that a step gives of a pair
-    one-given : (pair : Pair) (c : Contains pairs pair) → Contains (given stored time nonce pairs) (stamped time nonce (undone pair (meets pair c).now))
+    one-given : (pair : Pair) (c : Contains pairs pair)
+        → Contains (given stored time nonce pairs) (stamped time nonce (undone pair (meets pair c).now))
     one-given pair c =
         let met = meets pair c in
         given-all stored time nonce pairs (stamped time nonce (undone pair met.now)) (record {
@@ -160,7 +181,9 @@ module _ (stored : List ElementValue) (pairs : List Pair) (are : AreElements sto
         let met = meets pair c in
         (undone-stamp pair met.now).id ∙ (found-is stored pair.after.id met.now are met.found).1
 
-    one-at : (pair : Pair) (c : Contains pairs pair) → element_of (taken_all (given stored time nonce pairs) stored) pair.after.id ≡ Some (stamped time nonce (undone pair (meets pair c).now))
+    one-at : (pair : Pair) (c : Contains pairs pair)
+        → element_of (taken_all (given stored time nonce pairs) stored) pair.after.id
+        ≡ Some (stamped time nonce (undone pair (meets pair c).now))
     one-at pair c =
         ap (element_of (taken_all (given stored time nonce pairs) stored)) (sym (one-id pair c))
         ∙ gives-at (stamped time nonce (undone pair (meets pair c).now)) (one-given pair c)
@@ -168,7 +191,8 @@ module _ (stored : List ElementValue) (pairs : List Pair) (are : AreElements sto
     -- a given element and the stored one of its id
     given-id : (e : ElementValue) (own : IsGiven stored time nonce pairs e) → e.id ≡ own.pair.after.id
     given-id e own =
-        ap (λ (x : ElementValue). x.id) own.is ∙ (undone-stamp own.pair own.now).id ∙ (found-is stored own.pair.after.id own.now are own.found).1
+        ap (λ (x : ElementValue). x.id) own.is ∙ (undone-stamp own.pair own.now).id
+        ∙ (found-is stored own.pair.after.id own.now are own.found).1
 
     pub leads-on : Leads pairs stored (taken_all (given stored time nonce pairs) stored)
     leads-on = record {
@@ -189,19 +213,24 @@ module _ (stored : List ElementValue) (pairs : List Pair) (are : AreElements sto
     }
 
     -- the pair that is made of a given element
-    made-of : (e : ElementValue) (c : Contains (given stored time nonce pairs) e) → Contains (made stored (given stored time nonce pairs)) (pair_with (element_of stored e.id) e)
-    made-of e c = Contains-to_map (λ (x : ElementValue). pair_with (element_of stored x.id) x) (given stored time nonce pairs) e c
+    made-of : (e : ElementValue) (c : Contains (given stored time nonce pairs) e)
+        → Contains (made stored (given stored time nonce pairs)) (pair_with (element_of stored e.id) e)
+    made-of e c =
+        Contains-to_map (λ (x : ElementValue). pair_with (element_of stored x.id) x) (given stored time nonce pairs) e c
 
     given-was : (e : ElementValue) (own : IsGiven stored time nonce pairs e) → element_of stored e.id ≡ Some own.now
     given-was e own = ap (element_of stored) (given-id e own) ∙ own.found
 
-    pub leads-back : Leads (made stored (given stored time nonce pairs)) (taken_all (given stored time nonce pairs) stored) stored
+    pub leads-back : Leads (made stored (given stored time nonce pairs))
+        (taken_all (given stored time nonce pairs) stored) stored
     leads-back = record {
       each = λ pair c.
-          let of = Contains-map (λ (x : ElementValue). pair_with (element_of stored x.id) x) (given stored time nonce pairs) pair c in
+          let of = Contains-map (λ (x : ElementValue). pair_with (element_of stored x.id) x)
+          (given stored time nonce pairs) pair c in
           let own = given-each stored time nonce pairs of.0 of.1 in
           let was = given-was of.0 own in
-          let turns : Turns (record { before = own.now; after = of.0 }) (taken_all (given stored time nonce pairs) stored) stored = record {
+          let turns : Turns (record { before = own.now; after = of.0 })
+          (taken_all (given stored time nonce pairs) stored) stored = record {
             old = of.0;
             new = own.now;
             was = gives-at of.0 of.1;
@@ -209,7 +238,8 @@ module _ (stored : List ElementValue) (pairs : List Pair) (are : AreElements sto
             from = refl;
             to = refl;
           } in
-          subst (λ p. Turns p (taken_all (given stored time nonce pairs) stored) stored) (sym (ap (λ o. pair_with o of.0) was) ∙ of.2) turns;
+          subst (λ p. Turns p (taken_all (given stored time nonce pairs) stored) stored)
+          (sym (ap (λ o. pair_with o of.0) was) ∙ of.2) turns;
       others = λ id apart.
           ap (option_map unstamped) (taken-else stored (given stored time nonce pairs) id rise (λ e c same.
           apart (pair_with (element_of stored e.id) e) (made-of e c) same));
@@ -220,11 +250,13 @@ module _ (stored : List ElementValue) (pairs : List Pair) (are : AreElements sto
         let met = meets own.0 own.1 in
         let e = stamped time nonce (undone own.0 met.now) in
         let was : element_of stored e.id ≡ Some met.now = ap (element_of stored) (one-id own.0 own.1) ∙ met.found in
-        let is : pair_with (element_of stored e.id) e ≡ record { before = met.now; after = e } = ap (λ o. pair_with o e) was in (
+        let is : pair_with (element_of stored e.id) e ≡ record { before = met.now; after = e } =
+        ap (λ o. pair_with o e) was in (
           record { before = met.now; after = e },
           subst (Contains (made stored (given stored time nonce pairs))) is (made-of e (one-given own.0 own.1)),
           elim own.2 [
-            | inl before ↦ inr (ap (λ (x : ElementValue). x.deleted) (back own.0 own.1 met.now met.found met.same) ∙ before)
+            | inl before ↦ inr (ap (λ (x : ElementValue). x.deleted) (back own.0 own.1 met.now met.found met.same)
+                ∙ before)
             | inr after ↦ inl (ap (λ (x : ElementValue). x.deleted) met.same ∙ after)
           ],
         )

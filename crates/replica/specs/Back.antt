@@ -13,21 +13,23 @@ use Rattle.undoing.specs.Differing.{pending}
 use Rattle.undoing.specs.Steps.{Turn}
 use Rattle.replica.specs.State.{State, captured, stored_with, turn_on, after_turn}
 
--- Each old element is stored now the same but for the stamp, and every other element that is stored now is deleted.
+-- Each old element is stored now the same but for the stamp, and every other element that is stored
+-- now is deleted.
 pub record AgreesWith (old now : List ElementValue) : Type 0 where
   pub each : (id : List ℕ) (e : ElementValue) → element_of old id ≡ Some e
       → (other : ElementValue) × (element_of now id ≡ Some other) × (unstamped other ≡ unstamped e)
   pub others : (id : List ℕ) (e : ElementValue) → element_of old id ≡ None
       → element_of now id ≡ Some e → e.deleted ≡ true
 
--- A state is as another one was: what is stored agrees, and what is shown is the same but for the stamps.
+-- A state is as another one was: what is stored agrees, and what is shown is the same but for the
+-- stamps.
 pub record IsAs (was now : State) : Type 0 where
   pub agrees : AgreesWith was.stored now.stored
   pub looks : map unstamped (shown (live_elements now.stored)) ≡ map unstamped
       (shown (live_elements was.stored))
 
--- Nothing is pending: no stored element differs from that of the snapshot. One that the snapshot lacks counts as
--- deleted before.
+-- Nothing is pending: no stored element differs from that of the snapshot. One that the snapshot
+-- lacks counts as deleted before.
 abbrev pub HasNothingPending : State → Type 0
 HasNothingPending s = pending s.snapshot s.stored ≡ []
 
@@ -36,13 +38,14 @@ abbrev pub IsCaptured : State → Type 0
 IsCaptured s = map unstamped s.snapshot ≡ map unstamped s.stored
 
 -- ---- changes
--- An element alters what is stored of its id: it is new and live, or what is stored is live, of its kind, and differs from it
--- outside the stamp.
+-- An element alters what is stored of its id: it is new and live, or what is stored is live, of its
+-- kind, and differs from it outside the stamp.
 abbrev pub Alters : Option ElementValue → ElementValue → Type 0
 Alters None e = e.deleted ≡ false
 Alters (Some old) e = (old.deleted ≡ false) × (old.kind ≡ e.kind) × (unstamped old ≢ unstamped e)
 
--- A change of stored elements gives some elements in the order of their ids, which are taken and alter what is stored.
+-- A change of stored elements gives some elements in the order of their ids, which are taken and
+-- alter what is stored.
 pub record IsStoredChange (stored given : List ElementValue) : Type 0 where
   pub some : given ≢ []
   pub ordered : are_rising (ids_of given) ≡ true
@@ -76,8 +79,8 @@ pub record IsDone (call : Call) (found : Option (Result Turn (List ℕ))) : Type
   pub turn : Turn
   pub is : found ≡ Some (Ok turn)
 
--- A step is found: it is made, or refused for a full version alone: the stored element of the id stands at the greatest
--- one.
+-- A step is found: it is made, or refused for a full version alone: the stored element of the id
+-- stands at the greatest one.
 abbrev pub IsFound : List ElementValue → Option (Result Turn (List ℕ)) → Type 0
 IsFound stored None = ⊥
 IsFound stored (Some (Ok turn)) = Unit {0}

@@ -49,8 +49,8 @@ abbrev pub AreKnown : List ElementValue → List ElementValue → Type 0
 AreKnown elements stored =
     (id : List ℕ) → IsSome (element_of elements id) → IsSome (element_of stored id)
 
--- What holds of every board: it shows what is stored; of stored elements and snapshot the ids rise, and they are
--- elements; the ids of the snapshot and of both stacks are stored.
+-- What holds of every board: it shows what is stored; of stored elements and snapshot the ids rise,
+-- and they are elements; the ids of the snapshot and of both stacks are stored.
 pub record IsSound (t : Told) : Type 0 where
   pub view : t.view ≡ live_elements t.stored
   pub stored_rise : are_rising (ids_of t.stored) ≡ true
@@ -140,8 +140,10 @@ StacksComeBy direction stored time nonce (Done given) old new =
 StacksComeBy direction stored time nonce Nothing old new =
     AreUnseen stored (side direction old) × (new ≡ old)
 
--- A step is planned, from what is pending on: its plan for the stacks fits in them, and they come by it.
-pub record IsPlannedStep (stored snapshot : List ElementValue) (stacks : Stacks) (plan : PlannedStep) : Type 0 where
+-- A step is planned, from what is pending on: its plan for the stacks fits in them, and they come
+-- by it.
+pub record IsPlannedStep (stored snapshot : List ElementValue) (stacks : Stacks)
+    (plan : PlannedStep) : Type 0 where
   pub time : plan.time ≤ greatest_whole
   pub nonce : plan.nonce ≤ greatest_whole
   pub entry : List Delta

@@ -19,8 +19,9 @@ AreStoredIds stack stored =
     (entry : List Pair) (pair : Pair) → Contains stack entry → Contains entry pair
     → IsSome (element_of stored pair.after.id)
 
--- What holds of every state that a replica stands for: of stored elements and snapshot the ids rise; they are elements;
--- the snapshot's are stored, with the stored kind; and so are the ids of both stacks.
+-- What holds of every state that a replica stands for: of stored elements and snapshot the ids
+-- rise; they are elements; the snapshot's are stored, with the stored kind; and so are the ids of
+-- both stacks.
 pub record IsSoundState (s : State) : Type 0 where
   pub stored_rise : are_rising (ids_of s.stored) ≡ true
   pub snapshot_rise : are_rising (ids_of s.snapshot) ≡ true

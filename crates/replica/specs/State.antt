@@ -1,5 +1,5 @@
--- What a replica is, and what each call makes of it, over whole elements. This project's own, after Excalidraw's store
--- and history.
+-- What a replica is, and what each call makes of it, over whole elements. This project's own, after
+-- Excalidraw's store and history.
 use Rattle.std.specs.Prelude.{◌≡◌, ℕ, List, [], ◌∷◌, Option, Some, None, Result, Ok, Err}
 use Rattle.elem.specs.ElementValue.{ElementValue}
 use Rattle.elem_store.specs.Updates.{takings}
@@ -20,8 +20,9 @@ use Rattle.undoing.specs.Carrying.{taken_all, carried_all}
 use Rattle.undoing.specs.Differing.{pending}
 use Rattle.undoing.specs.Steps.{Turn, step}
 
--- The stored elements and those of the snapshot, in the order of their ids; the entries that can be undone and redone,
--- the next one first, each the elements before and after that it is of; and the ids that are held.
+-- The stored elements and those of the snapshot, in the order of their ids; the entries that can be
+-- undone and redone, the next one first, each the elements before and after that it is of; and the
+-- ids that are held.
 pub record State : Type 0 where
   pub stored : List ElementValue
   pub snapshot : List ElementValue
@@ -33,7 +34,8 @@ pub record State : Type 0 where
 abbrev pub nothing : State
 nothing = record { stored = []; snapshot = []; undo = []; redo = []; held = [] }
 
--- An entry that isn't empty is the next one to undo, and nothing can be redone; an empty one changes nothing.
+-- An entry that isn't empty is the next one to undo, and nothing can be redone; an empty one
+-- changes nothing.
 abbrev pub noted : List Pair → State → State
 noted [] s = s
 noted (pair ∷ pairs) s = record s { undo = (pair ∷ pairs) ∷ s.undo; redo = [] }
@@ -47,7 +49,8 @@ abbrev pub stored_with : List ElementValue → State → State
 stored_with list s = record s { stored = taken_all list s.stored }
 
 abbrev pub carried_with : List ElementValue → State → State
-carried_with list s = record (stored_with list s) { snapshot = carried_all (takings s.stored list) s.snapshot }
+carried_with list s =
+    record (stored_with list s) { snapshot = carried_all (takings s.stored list) s.snapshot }
 
 -- ---- a change
 -- the changed elements of a command, or its refusal
@@ -55,7 +58,8 @@ abbrev pub outcome_on : Command → ℕ → ℕ → State → Result (List Eleme
 outcome_on command time nonce s =
     outcome s.stored (shown (live_elements s.stored)) command time nonce
 
--- after these were changed: now captured with what was pending, or later, or carried into the snapshot
+-- after these were changed: now captured with what was pending, or later, or carried into the
+-- snapshot
 abbrev pub after_given : Capture → List ElementValue → State → State
 after_given Now given s = captured (stored_with given s)
 after_given Later given s = stored_with given s
@@ -86,7 +90,8 @@ after_delivery list s = carried_with (free_elements s.held list) s
 abbrev pub entries : Direction → State → List (List Pair)
 entries direction s = chosen direction s.undo s.redo
 
--- What is pending is captured, and then one step is made; nothing comes where no entry is seen, and the capture stands.
+-- What is pending is captured, and then one step is made; nothing comes where no entry is seen, and
+-- the capture stands.
 abbrev pub turn_on : Direction → ℕ → ℕ → State → Option (Result Turn (List ℕ))
 turn_on direction time nonce s =
     step s.stored time nonce (entries direction (captured s))

@@ -1,5 +1,5 @@
-//! What a replica stores, shows, and knows of its changes. Each call makes all that it needs first, in the order plans,
-//! copies and room, view, and then puts it in place, which takes no memory.
+//! What a replica stores, shows, and knows of its changes. Each call makes all that it needs first,
+//! in the order plans, copies and room, view, and then puts it in place, which takes no memory.
 
 ghost use Rattle.std.specs.Prelude.{◌≡◌, ◌≢◌, ◌↔◌, ◌≤◌, ◌<◌, [], true, false, IsTrue, Ok, Err, IfOk, IfErr, OnOk, OnErr};
 ghost use Rattle.frac_keys.specs.Rising.{are_rising};
@@ -27,7 +27,8 @@ use live_view::LiveView;
 use snapshot::{Snapshot, Touched};
 use std::alloc::{AllocError, Global};
 
-/// The stored elements, their view, the snapshot with the ids that were stored since it was taken, and the history.
+/// The stored elements, their view, the snapshot with the ids that were stored since it was taken,
+/// and the history.
 pub(crate) struct Board {
     pub(crate) store: Store,
     pub(crate) view: LiveView,
@@ -209,8 +210,8 @@ impl Board {
         })
     }
 
-    /// Puts a planned step in place: captures what is pending, and stores what the step gives, of which the snapshot is
-    /// then.
+    /// Puts a planned step in place: captures what is pending, and stores what the step gives, of
+    /// which the snapshot is then.
     pub(crate) fn put_step(
         &mut self,
         alloc: Global,

@@ -1,4 +1,5 @@
-//! Laws on successive changes and the undo and redo of them, for all replicas. They do nothing when they run.
+//! Laws on successive changes and the undo and redo of them, for all replicas. They do nothing when
+//! they run.
 
 ghost use Rattle.std.specs.Prelude.{◌≡◌, ◌≢◌, ◌≤◌, ◌<◌, ◌+◌, ◌-◌, ℕ, List, [], true, None, length, take};
 ghost use Rattle.frac_keys.specs.Rising.{are_rising};
@@ -9,9 +10,10 @@ ghost use Rattle.replica.specs.Back.{IsAs, HasNothingPending, changed_all, AreCh
 ghost use Rattle.replica.specs.Sound.{IsSoundState};
 ghost use Rattle.replica.specs.State.{State, after_delivery, undo_on, redo_on};
 
-/// After successive changes and at most as many undos it is as it was before the changes that were undone: each element
-/// that was stored then is stored the same but for the stamp, every other one is deleted, and what is shown is the same
-/// but for stamps. So it is as it was before them all after as many undos. While changes are left, undo finds an entry.
+/// After successive changes and at most as many undos it is as it was before the changes that were
+/// undone: each element that was stored then is stored the same but for the stamp, every other one
+/// is deleted, and what is shown is the same but for stamps. So it is as it was before them all
+/// after as many undos. While changes are left, undo finds an entry.
 pub fn undo_brings_back()
     ensures back { (s : State) (givens : List (List ElementValue)) → IsSoundState s
         → HasNothingPending s → AreChanges givens s
@@ -29,8 +31,9 @@ pub fn undo_brings_back()
         → (time nonce : ℕ) → undo_on time nonce (undone_all undos (changed_all givens s)) ≢ None }
 {}
 
-/// After at most as many redos behind the undos it is as it was after as many more of the changes. So it is as it was
-/// after them all after as many redos as undos. While undos are left, redo finds an entry.
+/// After at most as many redos behind the undos it is as it was after as many more of the changes.
+/// So it is as it was after them all after as many redos as undos. While undos are left, redo finds
+/// an entry.
 pub fn redo_repeats()
     ensures again { (s : State) (givens : List (List ElementValue)) → IsSoundState s
         → HasNothingPending s → AreChanges givens s

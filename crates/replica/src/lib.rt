@@ -1,5 +1,5 @@
-//! Replicas of a board: what each stores and shows, its history, and what commands, deliveries, undo and redo make of
-//! it.
+//! Replicas of a board: what each stores and shows, its history, and what commands, deliveries,
+//! undo and redo make of it.
 #![tactic(auto)]
 
 mod board;

@@ -2,8 +2,8 @@
 
 use history::{Direction, HistoryStep, Step};
 
-/// A step that is planned: whether it is one of undo or of redo, the time and the nonce that it stamps with, what it
-/// makes of the history, and what it gives.
+/// A step that is planned: whether it is one of undo or of redo, the time and the nonce that it
+/// stamps with, what it makes of the history, and what it gives.
 #[derive(Drop)]
 pub struct PlannedStep {
     pub direction: Direction,

@@ -28,8 +28,9 @@ use reconcile::{Held, free_copies};
 use std::alloc::{AllocError, Global};
 use std::marker::Model;
 
-/// One of several boards that are changed apart and told of each other's changes. Contracts see its stored elements,
-/// its snapshot, its stacks of entries and the ids that are held; for want of memory they are as before each call.
+/// One of several boards that are changed apart and told of each other's changes. Contracts see its
+/// stored elements, its snapshot, its stacks of entries and the ids that are held; for want of
+/// memory they are as before each call.
 ///
 /// `specs/State.antt` says over whole elements what each call makes of a replica; a clause on a call is for every state that
 /// the replica stands for.
@@ -78,8 +79,9 @@ impl Replica {
         }
     }
 
-    /// Makes a change: the elements that the command changes are stored, and given in the order of their ids; or it is
-    /// refused, and nothing is changed. Each that changes is stamped with the time and the nonce.
+    /// Makes a change: the elements that the command changes are stored, and given in the order of
+    /// their ids; or it is refused, and nothing is changed. Each that changes is stamped with the
+    /// time and the nonce.
     pub fn change(
         &mut self,
         command: &Command,
@@ -106,8 +108,8 @@ impl Replica {
         Ok(given)
     }
 
-    /// The elements that a command changes, as they become, in the order of their ids; or the refusal. Each that changes
-    /// is stamped with the time and the nonce.
+    /// The elements that a command changes, as they become, in the order of their ids; or the
+    /// refusal. Each that changes is stamped with the time and the nonce.
     pub fn given(
         &self,
         command: &Command,
@@ -139,8 +141,8 @@ impl Replica {
             .store_given(self.alloc, capture, given.as_slice())
     }
 
-    /// Takes the elements of a list whose ids aren't held, carries those that become stored into the snapshot, and
-    /// tells how many were taken.
+    /// Takes the elements of a list whose ids aren't held, carries those that become stored into
+    /// the snapshot, and tells how many were taken.
     pub fn deliver(&mut self, list: &[Element]) -> Result<u64, AllocError>
         ensures count { IfOk result
             (λ count. count ≡ length (free_elements self.old.held list.now)) }
@@ -153,7 +155,8 @@ impl Replica {
         Ok(free.len() as u64)
     }
 
-    /// Holds the id: updates for it that are delivered aren't taken. It wants no memory where the id is held.
+    /// Holds the id: updates for it that are delivered aren't taken. It wants no memory where the
+    /// id is held.
     pub fn hold(&mut self, id: &Text) -> Result<(), AllocError>
         ensures held { OnOk result (HasAdded self.old.held id.now self.new.held) }
         ensures kept { OnOk result (self.new ≡ record self.old { held = self.new.held }) }
@@ -171,10 +174,11 @@ impl Replica {
         self.held.drop_id(id)
     }
 
-    /// Captures what is pending, and then takes the topmost entry, or the topmost undo, that is seen back: the elements
-    /// that change are stored, and given in the order of their ids. `Nothing` comes exactly where no entry is seen; the
-    /// capture stands. `VersionFull` names the least id of those that would change and stand at the greatest version;
-    /// then nothing is changed.
+    /// Captures what is pending, and then takes the topmost entry, or the topmost undo, that is
+    /// seen back: the elements that change are stored, and given in the order of their ids.
+    /// `Nothing` comes exactly where no entry is seen; the capture stands. `VersionFull` names the
+    /// least id of those that would change and stand at the greatest version; then nothing is
+    /// changed.
     pub fn turn(
         &mut self,
         direction: Direction,
@@ -218,7 +222,8 @@ impl Replica {
         self.board.plan(direction, time, nonce)
     }
 
-    /// Puts a planned step in place, and gives what it says. It must have been planned on what the replica is.
+    /// Puts a planned step in place, and gives what it says. It must have been planned on what the
+    /// replica is.
     pub fn put_step(&mut self, plan: PlannedStep) -> Result<Step, AllocError>
         requires planned { IsPlannedStep self.old.stored self.old.snapshot self.old.stacks plan }
         ensures step { IfOk result (λ step. step ≡ plan.step) }

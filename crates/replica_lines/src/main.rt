@@ -12,7 +12,8 @@ use intake::LinesFault;
 use live::answer_input;
 use std::process::ExitCode;
 
-/// Answers the lines of standard input on standard output, to the end of the input. A fault is told on standard error.
+/// Answers the lines of standard input on standard output, to the end of the input. A fault is told
+/// on standard error.
 fn main(rt: HostRuntime) -> ExitCode {
     let mut source = StdSource::new(rt.stdin());
     let mut sink = StdSink::new(rt.stdout());

@@ -18,7 +18,8 @@ use Rattle.restore_table.specs.Merged.{AreUpdated, AreOldIds}
 use Rattle.restore_table.specs.Restored.{HasOldListing, listing_name, old_name, listing_text}
 
 -- ---- without a name
-filtered : (name other : List ℕ) (b : Bool) (ms : List Pair) → not (bytes_eq other name) ≡ b → value_at name (filter (has_other_name other) ms) ≡ cond b (value_at name ms) None
+filtered : (name other : List ℕ) (b : Bool) (ms : List Pair) → not (bytes_eq other name) ≡ b
+    → value_at name (filter (has_other_name other) ms) ≡ cond b (value_at name ms) None
 filtered name other b ms e =
     lookup-filter-keys (bytes_eq name) (λ key. not (bytes_eq other key)) b
     (λ key same. ap (λ k. not (bytes_eq other k)) (sym (bytes_eq-true name key same)) ∙ e) ms
@@ -26,17 +27,21 @@ filtered name other b ms e =
 without-gone : (name : List ℕ) (ms : List Pair) → value_at name (filter (has_other_name name) ms) ≡ None
 without-gone name ms = filtered name name false ms (ap not (bytes_eq-same name))
 
-without-other : (name other : List ℕ) (ms : List Pair) → name ≢ other → value_at name (filter (has_other_name other) ms) ≡ value_at name ms
-without-other name other ms differ = filtered name other true ms (ap not (bytes_eq-apart other name (λ e. differ (sym e))))
+without-other : (name other : List ℕ) (ms : List Pair) → name ≢ other → value_at name (filter (has_other_name other) ms)
+    ≡ value_at name ms
+without-other name other ms differ =
+    filtered name other true ms (ap not (bytes_eq-apart other name (λ e. differ (sym e))))
 
-without-distinct : (name : List ℕ) (ms : List Pair) → IsDistinct bytes_eq (names_of ms) → IsDistinct bytes_eq (names_of (filter (has_other_name name) ms))
+without-distinct : (name : List ℕ) (ms : List Pair) → IsDistinct bytes_eq (names_of ms)
+    → IsDistinct bytes_eq (names_of (filter (has_other_name name) ms))
 without-distinct name ms apart = IsDistinct-keys_filter bytes_eq (has_other_name name) ms apart
 
 -- ---- with one more
 push-there : (m : Pair) (ms : List Pair) → value_at m.0 ms ≡ None → value_at m.0 (ms ++ m ∷ []) ≡ Some m.1
 push-there m [] none = lookup_head (bytes_eq m.0) m [] (bytes_eq-same m.0)
 push-there m (n ∷ ns) none =
-    elim (bytes_eq m.0 n.0) as (λ b. cond b (Some n.1) (value_at m.0 ns) ≡ None → cond b (Some n.1) (value_at m.0 (ns ++ m ∷ [])) ≡ Some m.1) [
+    elim (bytes_eq m.0 n.0) as (λ b. cond b (Some n.1) (value_at m.0 ns) ≡ None
+    → cond b (Some n.1) (value_at m.0 (ns ++ m ∷ [])) ≡ Some m.1) [
       | true ↦ λ h. absurd (none-some n.1 (sym h))
       | false ↦ λ h. push-there m ns h
     ] none
@@ -45,14 +50,17 @@ push-other : (name : List ℕ) (m : Pair) (ms : List Pair) → name ≢ m.0 → 
 push-other name m [] differ = lookup_tail (bytes_eq name) m [] (bytes_eq-apart name m.0 differ)
 push-other name m (n ∷ ns) differ = ap (cond (bytes_eq name n.0) (Some n.1)) (push-other name m ns differ)
 
-none_any : (name : List ℕ) (ms : List Pair) → AllByRecursion (λ (m : Pair). bytes_eq name m.0 ≡ false) ms → list_any (bytes_eq name) (names_of ms) ≡ false
+none_any : (name : List ℕ) (ms : List Pair) → AllByRecursion (λ (m : Pair). bytes_eq name m.0 ≡ false) ms
+    → list_any (bytes_eq name) (names_of ms) ≡ false
 none_any name [] none = refl
 none_any name (m ∷ ms) none = rw none.0 (none_any name ms none.1)
 
-push-distinct : (m : Pair) (ms : List Pair) → value_at m.0 ms ≡ None → IsDistinct bytes_eq (names_of ms) → IsDistinct bytes_eq (names_of (ms ++ m ∷ []))
+push-distinct : (m : Pair) (ms : List Pair) → value_at m.0 ms ≡ None → IsDistinct bytes_eq (names_of ms)
+    → IsDistinct bytes_eq (names_of (ms ++ m ∷ []))
 push-distinct m ms none apart =
     subst (IsDistinct bytes_eq) (sym (map-append (λ (n : Pair). n.0) ms (m ∷ [])))
-    (IsDistinct-push nat_list_eq_equiv (names_of ms) m.0 apart (none_any m.0 ms (none_passes_from_lookup (bytes_eq m.0) ms none)))
+    (IsDistinct-push nat_list_eq_equiv (names_of ms) m.0 apart
+    (none_any m.0 ms (none_passes_from_lookup (bytes_eq m.0) ms none)))
 
 -- ---- the three cases
 differ : listing_name ≢ old_name
@@ -61,7 +69,8 @@ differ e = absurd (apart_codes (ap (λ x. bytes_eq x old_name) e))
     apart_codes : bytes_eq listing_name old_name ≡ bytes_eq old_name old_name → ⊥
     apart_codes e = cc
 
-pub updated-none : (ms us : List Pair) → IsDistinct bytes_eq (names_of ms) → value_at old_name ms ≡ None → us ≡ ms → AreUpdated ms us
+pub updated-none : (ms us : List Pair) → IsDistinct bytes_eq (names_of ms) → value_at old_name ms ≡ None → us ≡ ms
+    → AreUpdated ms us
 updated-none ms us apart none same = subst (AreUpdated ms) (sym same) (record {
   ids = None;
   old = λ ids has. none-some (array_text (map quote ids)) (sym none ∙ has.named);
@@ -74,13 +83,16 @@ updated-none ms us apart none same = subst (AreUpdated ms) (sym same) (record {
 value-same : (v w : List ℕ) → Some v ≡ Some w → v ≡ w
 value-same v w e = cc
 
-ids-of : (ms : List Pair) (value : List ℕ) (ids : List (List ℕ)) → value_at old_name ms ≡ Some value → HasOldListing ms ids → AreOldIds value ids
+ids-of : (ms : List Pair) (value : List ℕ) (ids : List (List ℕ)) → value_at old_name ms ≡ Some value
+    → HasOldListing ms ids → AreOldIds value ids
 ids-of ms value ids is has = (has.texts, value-same value (array_text (map quote ids)) (sym is ∙ has.named))
 
-has-old : (ms : List Pair) (value : List ℕ) (ids : List (List ℕ)) → value_at old_name ms ≡ Some value → AreOldIds value ids → HasOldListing ms ids
+has-old : (ms : List Pair) (value : List ℕ) (ids : List (List ℕ)) → value_at old_name ms ≡ Some value
+    → AreOldIds value ids → HasOldListing ms ids
 has-old ms value ids is old = record { texts = old.0; named = is ∙ ap Some old.1 }
 
-pub updated-wrong : (ms us : List Pair) (value : List ℕ) → IsDistinct bytes_eq (names_of ms) → value_at old_name ms ≡ Some value → IsTheOne (AreOldIds value) None →
+pub updated-wrong : (ms us : List Pair) (value : List ℕ) → IsDistinct bytes_eq (names_of ms)
+    → value_at old_name ms ≡ Some value → IsTheOne (AreOldIds value) None →
     us ≡ filter (has_other_name old_name) ms → AreUpdated ms us
 updated-wrong ms us value apart is wrong same = subst (AreUpdated ms) (sym same) (record {
   ids = None;
@@ -91,8 +103,11 @@ updated-wrong ms us value apart is wrong same = subst (AreUpdated ms) (sym same)
   others = λ name not_old not_listing. without-other name old_name ms not_old;
 })
 
-pub updated-listing : (ms us : List Pair) (value : List ℕ) (ids : List (List ℕ)) → IsDistinct bytes_eq (names_of ms) → value_at old_name ms ≡ Some value →
-    IsTheOne (AreOldIds value) (Some ids) → us ≡ filter (has_other_name listing_name) (filter (has_other_name old_name) ms) ++ (listing_name, listing_text ids) ∷ [] → AreUpdated ms us
+pub updated-listing : (ms us : List Pair) (value : List ℕ) (ids : List (List ℕ)) → IsDistinct bytes_eq (names_of ms)
+    → value_at old_name ms ≡ Some value →
+    IsTheOne (AreOldIds value) (Some ids)
+    → us ≡ filter (has_other_name listing_name) (filter (has_other_name old_name) ms)
+    ++ (listing_name, listing_text ids) ∷ [] → AreUpdated ms us
 updated-listing ms us value ids apart is one same =
     let m : Pair = (listing_name, listing_text ids) in
     let first = filter (has_other_name old_name) ms in
@@ -100,9 +115,12 @@ updated-listing ms us value ids apart is one same =
     subst (AreUpdated ms) (sym same) (record {
       ids = Some ids;
       old = (has-old ms value ids is one.0, λ other has. one.1 other (ids-of ms value other is has));
-      distinct = push-distinct m kept (without-gone listing_name first) (without-distinct listing_name first (without-distinct old_name ms apart));
-      gone = push-other old_name m kept (λ e. differ (sym e)) ∙ (without-other old_name listing_name first (λ e. differ (sym e)) ∙ without-gone old_name ms);
+      distinct = push-distinct m kept (without-gone listing_name first)
+          (without-distinct listing_name first (without-distinct old_name ms apart));
+      gone = push-other old_name m kept (λ e. differ (sym e))
+          ∙ (without-other old_name listing_name first (λ e. differ (sym e)) ∙ without-gone old_name ms);
       listing = push-there m kept (without-gone listing_name first);
       others = λ name not_old not_listing.
-          push-other name m kept not_listing ∙ (without-other name listing_name first not_listing ∙ without-other name old_name ms not_old);
+          push-other name m kept not_listing ∙ (without-other name listing_name first not_listing
+          ∙ without-other name old_name ms not_old);
     })

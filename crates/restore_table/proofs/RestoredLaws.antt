@@ -19,11 +19,13 @@ use Rattle.restore_table.proofs.Rows.{defaults-rise, defaults-old}
 -- ---- a value and its default
 filled-given : (d : Option (List ℕ)) (value : List ℕ) → value ≢ null_word → filled d (Some value) ≡ Some value
 filled-given None value given = refl
-filled-given (Some default) value given = cond-false (bytes_eq value null_word) (Some default) (Some value) (bytes_eq-apart value null_word given)
+filled-given (Some default) value given =
+    cond-false (bytes_eq value null_word) (Some default) (Some value) (bytes_eq-apart value null_word given)
 
 filled-null : (default value : List ℕ) → value ≡ null_word → filled (Some default) (Some value) ≡ Some default
 filled-null default value null =
-    cond-true (bytes_eq value null_word) (Some default) (Some value) (ap (λ v. bytes_eq v null_word) null ∙ bytes_eq-same null_word)
+    cond-true (bytes_eq value null_word) (Some default) (Some value) (ap (λ v. bytes_eq v null_word) null
+    ∙ bytes_eq-same null_word)
 
 -- a value that is null only if its default is
 record IsFull (default : List ℕ) (found : Option (List ℕ)) : Type 0 where
@@ -34,11 +36,16 @@ record IsFull (default : List ℕ) (found : Option (List ℕ)) : Type 0 where
 filled-IsFull : (default : List ℕ) (given : Option (List ℕ)) → IsFull default (filled (Some default) given)
 filled-IsFull default None = record { value = default; found_is = refl; full = λ e. e }
 filled-IsFull default (Some value) = elim (cases_Bool (bytes_eq value null_word)) [
-  | inl e ↦ record { value = default; found_is = cond-true (bytes_eq value null_word) (Some default) (Some value) e; full = λ e. e }
+  | inl e ↦ record {
+    value = default;
+    found_is = cond-true (bytes_eq value null_word) (Some default) (Some value) e;
+    full = λ e. e;
+  }
   | inr e ↦ record {
     value = value;
     found_is = cond-false (bytes_eq value null_word) (Some default) (Some value) e;
-    full = λ null. absurd (both_ways (bytes_eq value null_word) e (ap (λ v. bytes_eq v null_word) null ∙ bytes_eq-same null_word));
+    full = λ null. absurd (both_ways (bytes_eq value null_word) e (ap (λ v. bytes_eq v null_word) null
+        ∙ bytes_eq-same null_word));
   }
 ]
 
@@ -46,27 +53,34 @@ full-filled : (default : List ℕ) (given : Option (List ℕ)) → IsFull defaul
 full-filled default given full = elim (cases_Bool (bytes_eq full.value null_word)) [
   | inl e ↦
       let null = bytes_eq-true full.value null_word e in
-      ap (filled (Some default)) full.found_is ∙ (filled-null default full.value null ∙ (ap Some (full.full null ∙ sym null) ∙ sym full.found_is))
+      ap (filled (Some default)) full.found_is
+      ∙ (filled-null default full.value null ∙ (ap Some (full.full null ∙ sym null) ∙ sym full.found_is))
   | inr e ↦
-      let given' : full.value ≢ null_word = λ null. both_ways (bytes_eq full.value null_word) e (ap (λ v. bytes_eq v null_word) null ∙ bytes_eq-same null_word) in
+      let given' : full.value ≢ null_word =
+      λ null. both_ways (bytes_eq full.value null_word) e (ap (λ v. bytes_eq v null_word) null
+      ∙ bytes_eq-same null_word) in
       ap (filled (Some default)) full.found_is ∙ (filled-given (Some default) full.value given' ∙ sym full.found_is)
 ]
 
 listing-given : (ids : List (List ℕ)) → listing_text ids ≢ null_word
 unfolding array_text
-listing-given ids e = both_ways (bytes_eq (listing_text ids) null_word) refl (ap (λ v. bytes_eq v null_word) e ∙ bytes_eq-same null_word)
+listing-given ids e =
+    both_ways (bytes_eq (listing_text ids) null_word) refl (ap (λ v. bytes_eq v null_word) e ∙ bytes_eq-same null_word)
 
 -- the listing is filled in already
 filled-listing : (ids : Option (List (List ℕ))) (members : List Pair) → IsFull (91 ∷ 93 ∷ []) (listing_at ids members)
-filled-listing (Some ids) members = record { value = listing_text ids; found_is = refl; full = λ null. absurd (listing-given ids null) }
+filled-listing (Some ids) members =
+    record { value = listing_text ids; found_is = refl; full = λ null. absurd (listing-given ids null) }
 filled-listing None members = filled-IsFull (91 ∷ 93 ∷ []) (value_at listing_name members)
 
 -- ---- look-ups name by name
 apart : (a b : List ℕ) → bytes_eq a b ≡ false → a ≢ b
 apart a b h e = both_ways (bytes_eq a b) h (ap (λ x. bytes_eq x b) e ∙ bytes_eq-same b)
 
-by_name : (rs ss : List Pair) → value_at old_name rs ≡ value_at old_name ss → value_at listing_name rs ≡ value_at listing_name ss →
-    ((name : List ℕ) → name ≢ old_name → name ≢ listing_name → value_at name rs ≡ value_at name ss) → AreSameMembers rs ss
+by_name : (rs ss : List Pair) → value_at old_name rs ≡ value_at old_name ss
+    → value_at listing_name rs ≡ value_at listing_name ss →
+    ((name : List ℕ) → name ≢ old_name → name ≢ listing_name → value_at name rs ≡ value_at name ss)
+    → AreSameMembers rs ss
 by_name rs ss old listing others name = elim (cases_Bool (bytes_eq name old_name)) [
   | inl e ↦ subst (λ n. value_at n rs ≡ value_at n ss) (sym (bytes_eq-true name old_name e)) old
   | inr e ↦ elim (cases_Bool (bytes_eq name listing_name)) [
@@ -81,7 +95,8 @@ listing_over-at : (ids : Option (List (List ℕ))) (members : List Pair) →
 listing_over-at (Some ids) members = filled-given (Some (91 ∷ 93 ∷ [])) (listing_text ids) (listing-given ids)
 listing_over-at None members = refl
 
-pub restored-from : (ms us ws all : List Pair) → AreUpdated ms us → IsPermutation us ws → HaveRisingNames ws → all ≡ merged ws defaults → AreRestored ms all
+pub restored-from : (ms us ws all : List Pair) → AreUpdated ms us → IsPermutation us ws → HaveRisingNames ws
+    → all ≡ merged ws defaults → AreRestored ms all
 restored-from ms us ws all update moved rise is =
     let at : (name : List ℕ) → value_at name all ≡ filled (value_at name defaults) (value_at name us) = λ name.
     ap (value_at name) is ∙ (merged-at name ws defaults rise defaults-rise
@@ -92,7 +107,8 @@ restored-from ms us ws all update moved rise is =
       old = update.old;
       gone = at old_name ∙ ap (filled None) update.gone;
       listing = at listing_name ∙ (ap (filled (Some (91 ∷ 93 ∷ []))) update.listing ∙ listing_over-at update.ids ms);
-      others = λ name not_old not_listing. at name ∙ ap (filled (value_at name defaults)) (update.others name not_old not_listing);
+      others = λ name not_old not_listing. at name
+          ∙ ap (filled (value_at name defaults)) (update.others name not_old not_listing);
     }
 
 -- ---- the laws
@@ -109,15 +125,18 @@ restored-unique ms rs ss one two =
     (by_name rs ss (one.gone ∙ sym two.gone) (one.listing ∙ (ap (λ i. listing_at i ms) ids ∙ sym two.listing))
     (λ name not_old not_listing. one.others name not_old not_listing ∙ sym (two.others name not_old not_listing)))
 
-old-same : (ms ns : List Pair) (ids : List (List ℕ)) → AreSameMembers ms ns → HasOldListing ms ids → HasOldListing ns ids
+old-same : (ms ns : List Pair) (ids : List (List ℕ)) → AreSameMembers ms ns → HasOldListing ms ids
+    → HasOldListing ns ids
 old-same ms ns ids same has = record { texts = has.texts; named = sym (same old_name) ∙ has.named }
 
-one-moved : (ms ns : List Pair) (ids : Option (List (List ℕ))) → AreSameMembers ms ns → IsTheOne (HasOldListing ms) ids → IsTheOne (HasOldListing ns) ids
+one-moved : (ms ns : List Pair) (ids : Option (List (List ℕ))) → AreSameMembers ms ns → IsTheOne (HasOldListing ms) ids
+    → IsTheOne (HasOldListing ns) ids
 one-moved ms ns None same none = λ ids has. none ids (old-same ns ms ids (λ name. sym (same name)) has)
 one-moved ms ns (Some ids) same one =
     (old-same ms ns ids same one.0, λ other has. one.1 other (old-same ns ms other (λ name. sym (same name)) has))
 
-listing-same : (ids : Option (List (List ℕ))) (ms ns : List Pair) → AreSameMembers ms ns → listing_at ids ms ≡ listing_at ids ns
+listing-same : (ids : Option (List (List ℕ))) (ms ns : List Pair) → AreSameMembers ms ns
+    → listing_at ids ms ≡ listing_at ids ns
 listing-same (Some ids) ms ns same = refl
 listing-same None ms ns same = ap (filled (Some (91 ∷ 93 ∷ []))) (same listing_name)
 
@@ -128,29 +147,37 @@ restored-order ms ns rs same are = record {
   old = one-moved ms ns are.ids same are.old;
   gone = are.gone;
   listing = are.listing ∙ listing-same are.ids ms ns same;
-  others = λ name not_old not_listing. are.others name not_old not_listing ∙ ap (filled (value_at name defaults)) (same name);
+  others = λ name not_old not_listing. are.others name not_old not_listing
+      ∙ ap (filled (value_at name defaults)) (same name);
 }
 
-full-there : (default : List ℕ) (found : Option (List ℕ)) → IsFull default found → (value : List ℕ) × (found ≡ Some value) × (value ≡ null_word → default ≡ null_word)
+full-there : (default : List ℕ) (found : Option (List ℕ)) → IsFull default found → (value : List ℕ)
+    × (found ≡ Some value) × (value ≡ null_word → default ≡ null_word)
 full-there default found full = (full.value, full.found_is, full.full)
 
-there-full : (default : List ℕ) (found : Option (List ℕ)) → (value : List ℕ) × (found ≡ Some value) × (value ≡ null_word → default ≡ null_word) → IsFull default found
+there-full : (default : List ℕ) (found : Option (List ℕ)) → (value : List ℕ) × (found ≡ Some value)
+    × (value ≡ null_word → default ≡ null_word) → IsFull default found
 there-full default found there = record { value = there.0; found_is = there.1; full = there.2 }
 
 pub restored-lack : (ms rs : List Pair) → AreRestored ms rs → LackNothing rs
 restored-lack ms rs are = record {
   gone = are.gone;
   each_filled = λ name default row. elim (cases_Bool (bytes_eq name old_name)) [
-    | inl e ↦ absurd (none-some default (sym defaults-old ∙ (ap (λ n. value_at n defaults) (sym (bytes_eq-true name old_name e)) ∙ row)))
+    | inl e ↦ absurd (none-some default (sym defaults-old
+        ∙ (ap (λ n. value_at n defaults) (sym (bytes_eq-true name old_name e)) ∙ row)))
     | inr e ↦ elim (cases_Bool (bytes_eq name listing_name)) [
       | inl f ↦
           let own = bytes_eq-true name listing_name f in
           let brackets : Some (91 ∷ 93 ∷ []) ≡ Some default = ap (λ n. value_at n defaults) (sym own) ∙ row in
-          let full = subst (λ d. IsFull d (listing_at are.ids ms)) (some-same (91 ∷ 93 ∷ []) default brackets) (filled-listing are.ids ms) in
-          full-there default (value_at name rs) (subst (IsFull default) (sym (ap (λ n. value_at n rs) own ∙ are.listing)) full)
+          let full = subst (λ d. IsFull d (listing_at are.ids ms)) (some-same (91 ∷ 93 ∷ []) default brackets)
+          (filled-listing are.ids ms) in
+          full-there default (value_at name rs)
+          (subst (IsFull default) (sym (ap (λ n. value_at n rs) own ∙ are.listing)) full)
       | inr f ↦
-          let filled_in = are.others name (apart name old_name e) (apart name listing_name f) ∙ ap (λ d. filled d (value_at name ms)) row in
-          full-there default (value_at name rs) (subst (IsFull default) (sym filled_in) (filled-IsFull default (value_at name ms)))
+          let filled_in = are.others name (apart name old_name e) (apart name listing_name f)
+          ∙ ap (λ d. filled d (value_at name ms)) row in
+          full-there default (value_at name rs)
+          (subst (IsFull default) (sym filled_in) (filled-IsFull default (value_at name ms)))
     ]
   ];
 }
@@ -159,38 +186,49 @@ restored-lack ms rs are = record {
     some-same a b e = cc
 
 -- what lacks nothing has nothing filled in
-lack-filled : (ms : List Pair) (name : List ℕ) (d : Option (List ℕ)) → LackNothing ms → value_at name defaults ≡ d → filled d (value_at name ms) ≡ value_at name ms
+lack-filled : (ms : List Pair) (name : List ℕ) (d : Option (List ℕ)) → LackNothing ms → value_at name defaults ≡ d
+    → filled d (value_at name ms) ≡ value_at name ms
 lack-filled ms name None lack row = refl
-lack-filled ms name (Some default) lack row = full-filled default (value_at name ms) (there-full default (value_at name ms) (lack.each_filled name default row))
+lack-filled ms name (Some default) lack row =
+    full-filled default (value_at name ms) (there-full default (value_at name ms) (lack.each_filled name default row))
 
-lack-listing : (ms : List Pair) (ids : Option (List (List ℕ))) → LackNothing ms → IsTheOne (HasOldListing ms) ids → listing_at ids ms ≡ value_at listing_name ms
+lack-listing : (ms : List Pair) (ids : Option (List (List ℕ))) → LackNothing ms → IsTheOne (HasOldListing ms) ids
+    → listing_at ids ms ≡ value_at listing_name ms
 lack-listing ms (Some ids) lack one = absurd (none-some (array_text (map quote ids)) (sym lack.gone ∙ one.0.named))
 lack-listing ms None lack none = lack-filled ms listing_name (Some (91 ∷ 93 ∷ [])) lack refl
 
 pub lack-same : (ms rs : List Pair) → LackNothing ms → AreRestored ms rs → AreSameMembers ms rs
 lack-same ms rs lack are =
     by_name ms rs (lack.gone ∙ sym are.gone) (sym (lack-listing ms are.ids lack are.old) ∙ sym are.listing)
-    (λ name not_old not_listing. sym (are.others name not_old not_listing ∙ lack-filled ms name (value_at name defaults) lack refl))
+    (λ name not_old not_listing. sym (are.others name not_old not_listing
+    ∙ lack-filled ms name (value_at name defaults) lack refl))
 
 pub restored-again : (ms rs ss : List Pair) → AreRestored ms rs → AreRestored rs ss → ss ≡ rs
-restored-again ms rs ss one two = sym (rising_same rs ss one.rise two.rise (lack-same rs ss (restored-lack ms rs one) two))
+restored-again ms rs ss one two =
+    sym (rising_same rs ss one.rise two.rise (lack-same rs ss (restored-lack ms rs one) two))
 
 -- what is given stays
-pub given-stays : (ms rs : List Pair) (name value : List ℕ) → AreRestored ms rs → name ≢ old_name → name ≢ listing_name →
+pub given-stays : (ms rs : List Pair) (name value : List ℕ) → AreRestored ms rs → name ≢ old_name → name ≢ listing_name
+    →
     value_at name ms ≡ Some value → value ≢ null_word → value_at name rs ≡ Some value
 given-stays ms rs name value are not_old not_listing is given =
-    are.others name not_old not_listing ∙ (ap (filled (value_at name defaults)) is ∙ filled-given (value_at name defaults) value given)
+    are.others name not_old not_listing
+    ∙ (ap (filled (value_at name defaults)) is ∙ filled-given (value_at name defaults) value given)
 
-listing-none : (ms : List Pair) (ids : Option (List (List ℕ))) → IsTheOne (HasOldListing ms) ids → ((ids : List (List ℕ)) → HasOldListing ms ids → ⊥) → listing_at ids ms ≡ filled_at listing_name ms
+listing-none : (ms : List Pair) (ids : Option (List (List ℕ))) → IsTheOne (HasOldListing ms) ids
+    → ((ids : List (List ℕ)) → HasOldListing ms ids → ⊥) → listing_at ids ms ≡ filled_at listing_name ms
 listing-none ms None old none = refl
 listing-none ms (Some ids) old none = absurd (none ids old.0)
 
-pub listing-stays : (ms rs : List Pair) (value : List ℕ) → AreRestored ms rs → ((ids : List (List ℕ)) → HasOldListing ms ids → ⊥) →
+pub listing-stays : (ms rs : List Pair) (value : List ℕ) → AreRestored ms rs
+    → ((ids : List (List ℕ)) → HasOldListing ms ids → ⊥) →
     value_at listing_name ms ≡ Some value → value ≢ null_word → value_at listing_name rs ≡ Some value
 listing-stays ms rs value are none is given =
-    are.listing ∙ (listing-none ms are.ids are.old none ∙ (ap (filled (Some (91 ∷ 93 ∷ []))) is ∙ filled-given (Some (91 ∷ 93 ∷ [])) value given))
+    are.listing ∙ (listing-none ms are.ids are.old none
+    ∙ (ap (filled (Some (91 ∷ 93 ∷ []))) is ∙ filled-given (Some (91 ∷ 93 ∷ [])) value given))
 
-pub unknown-stays : (ms rs : List Pair) (name : List ℕ) → AreRestored ms rs → name ≢ old_name → value_at name defaults ≡ None → value_at name rs ≡ value_at name ms
+pub unknown-stays : (ms rs : List Pair) (name : List ℕ) → AreRestored ms rs → name ≢ old_name
+    → value_at name defaults ≡ None → value_at name rs ≡ value_at name ms
 unknown-stays ms rs name are not_old unknown =
     are.others name not_old (λ own. none-some (91 ∷ 93 ∷ []) (sym unknown ∙ ap (λ n. value_at n defaults) own))
     ∙ ap (λ d. filled d (value_at name ms)) unknown

@@ -144,7 +144,10 @@ defaults-compact = (
                                 black,
                                 (
                                   solid,
-                                  (number 50 [] (λ e. omega arith) refl, (zero_digit, (one, (zero_digit, (zero_digit, (zero_digit, (zero_digit, tt))))))),
+                                  (
+                                    number 50 [] (λ e. omega arith) refl,
+                                    (zero_digit, (one, (zero_digit, (zero_digit, (zero_digit, (zero_digit, tt)))))),
+                                  ),
                                 ),
                               ),
                             ),
@@ -164,7 +167,8 @@ defaults-compact = (
 )
 
 -- ---- a row is found by its name
-pub row-found : (name : List ℕ) (rows : List Row) (i : ℕ) (d : Row) → i < length rows → bytes_eq name (get_or rows i d).name.now ≡ true →
+pub row-found : (name : List ℕ) (rows : List Row) (i : ℕ) (d : Row) → i < length rows
+    → bytes_eq name (get_or rows i d).name.now ≡ true →
     value_at name (map row_pair (drop i rows)) ≡ Some (get_or rows i d).default.now
 row-found name [] i d h test = absurd (omega arith)
 row-found name (x ∷ xs) zero d h test = lookup_head (bytes_eq name) (row_pair x) (map row_pair xs) test

@@ -45,7 +45,8 @@ name_of member = option_map_or (λ member. member.name) member []
 abbrev pub RiseAfter : List ℕ → List Pair → Type 0
 RiseAfter last members = HaveRisingNames ((last, []) ∷ members)
 
--- Members that rise from a name on, between which no row has a place and of which none takes the value of its row.
+-- Members that rise from a name on, between which no row has a place and of which none takes the
+-- value of its row.
 pub record IsWholeAfter (last : List ℕ) (rows members : List Pair) : Type 0 where
   pub rise : RiseAfter last members
   pub whole : merged members rows ≡ members
@@ -73,4 +74,5 @@ pub record AreUpdated (members updated : List Pair) : Type 0 where
   pub distinct : IsDistinct bytes_eq (names_of updated)
   pub gone : value_at old_name updated ≡ None
   pub listing : value_at listing_name updated ≡ listing_over ids (value_at listing_name members)
-  pub others : (name : List ℕ) → name ≢ old_name → name ≢ listing_name → value_at name updated ≡ value_at name members
+  pub others : (name : List ℕ) → name ≢ old_name → name ≢ listing_name
+      → value_at name updated ≡ value_at name members

@@ -1,9 +1,10 @@
--- The members that every element has, and what each is where an element doesn't give it. Excalidraw's element types and
--- its restore; that these rows are taken is this project's own.
+-- The members that every element has, and what each is where an element doesn't give it.
+-- Excalidraw's element types and its restore; that these rows are taken is this project's own.
 use Rattle.std.specs.Prelude.{List, [], ◌∷◌, codes}
 use Rattle.json_text.specs.Compact.{Member as Pair}
 
--- Each row is the name of a member and the compact text of its default, in the order of the bytes of the names.
+-- Each row is the name of a member and the compact text of its default, in the order of the bytes
+-- of the names.
 abbrev pub defaults : List Pair
 defaults =
     (codes "angle", codes "0")

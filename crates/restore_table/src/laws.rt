@@ -16,15 +16,19 @@ pub fn restored_members_are_unique()
 /// The order of the members plays no part in what they are restored to.
 pub fn given_order_plays_no_part()
     ensures { (members others restored : List Member)
-        → AreSameMembers members others → AreRestored members restored → AreRestored others restored }
+        → AreSameMembers members others → AreRestored members restored
+        → AreRestored others restored }
 {}
 
-/// Restored members lack nothing: each of the table is there, and is null only if that is its default.
+/// Restored members lack nothing: each of the table is there, and is null only if that is its
+/// default.
 pub fn restored_members_lack_nothing()
-    ensures { (members restored : List Member) → AreRestored members restored → LackNothing restored }
+    ensures { (members restored : List Member) → AreRestored members restored
+        → LackNothing restored }
 {}
 
-/// Members that lack nothing stay as they are, but for their order; so restoring again changes nothing.
+/// Members that lack nothing stay as they are, but for their order; so restoring again changes
+/// nothing.
 pub fn what_lacks_nothing_stays()
     ensures same { (members restored : List Member)
         → LackNothing members → AreRestored members restored → AreSameMembers members restored }
@@ -36,10 +40,12 @@ pub fn what_lacks_nothing_stays()
 pub fn given_values_stay()
     ensures given { (members restored : List Member) (name value : List ℕ)
         → AreRestored members restored → name ≢ old_name → name ≢ listing_name
-        → value_at name members ≡ Some value → value ≢ null_word → value_at name restored ≡ Some value }
+        → value_at name members ≡ Some value → value ≢ null_word
+        → value_at name restored ≡ Some value }
     ensures listing { (members restored : List Member) (value : List ℕ)
         → AreRestored members restored → ((ids : List (List ℕ)) → HasOldListing members ids → ⊥)
-        → value_at listing_name members ≡ Some value → value ≢ null_word → value_at listing_name restored ≡ Some value }
+        → value_at listing_name members ≡ Some value → value ≢ null_word
+        → value_at listing_name restored ≡ Some value }
     ensures unknown { (members restored : List Member) (name : List ℕ)
         → AreRestored members restored → name ≢ old_name → value_at name defaults ≡ None
         → value_at name restored ≡ value_at name members }

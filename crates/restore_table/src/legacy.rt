@@ -46,7 +46,8 @@ fn with_listing(
     listing: Raw,
 ) -> Result<Vec<Member>, AllocError>
     ensures { IfOk result (λ all. pairs all.items
-        ≡ filter (has_other_name listing_name) (pairs members.items) ++ (listing_name, listing) ∷ []) }
+        ≡ filter (has_other_name listing_name) (pairs members.items) ++ (listing_name, listing)
+        ∷ []) }
 {
     let mut all = without(members, LISTING);
     all.push(Member::named(alloc, LISTING, listing)?)?;

@@ -22,12 +22,14 @@ use scene_json::is_null;
 use std::alloc::{AllocError, Global};
 use std::cmp::Ordering;
 
-/// The members with the default of each one of the table that is missing or null, in the order of the bytes of their
-/// names; an old listing of ids becomes one of arrows. Fails only for want of memory.
+/// The members with the default of each one of the table that is missing or null, in the order of
+/// the bytes of their names; an old listing of ids becomes one of arrows. Fails only for want of
+/// memory.
 pub fn restore(alloc: Global, members: &List<Member>) -> Result<List<Member>, AllocError>
     requires { IsDistinct bytes_eq (map (λ member. member.name) members.now) }
     ensures restored { IfOk result (λ restored. AreRestored (pairs members.now) (pairs restored)) }
-    ensures nests { (limit : ℕ) → 2 ≤ limit → All (λ member. IsCompact limit member.value) members.now
+    ensures nests { (limit : ℕ) → 2 ≤ limit
+        → All (λ member. IsCompact limit member.value) members.now
         → IfOk result (λ restored. All (λ member. IsCompact limit member.value) restored) }
 {
     into_restored(alloc, members.try_clone_with(Member::try_clone)?)
@@ -45,8 +47,9 @@ pub fn into_restored(alloc: Global, members: List<Member>) -> Result<List<Member
     Ok(List::from_vec(members))
 }
 
-/// Puts the members in the order of their names, with the defaults of those that are missing or null. The fronts of the
-/// names are sorted first: they compare and move faster than members, and mostly nothing is left to do then.
+/// Puts the members in the order of their names, with the defaults of those that are missing or
+/// null. The fronts of the names are sorted first: they compare and move faster than members, and
+/// mostly nothing is left to do then.
 fn complete(members: &mut Vec<Member>) -> Result<(), AllocError>
     ensures { OnOk result (AreCompleted members.old.items members.new.items) }
 {
@@ -62,7 +65,8 @@ fn complete(members: &mut Vec<Member>) -> Result<(), AllocError>
     Ok(())
 }
 
-/// Whether the names of the members rise, and none of the table is missing, nor null if its default isn't.
+/// Whether the names of the members rise, and none of the table is missing, nor null if its default
+/// isn't.
 fn is_whole(members: &[Member]) -> bool
     ensures { IsTrue result → IsWholeAfter [] defaults (pairs members.now) }
 {
@@ -78,8 +82,8 @@ fn is_whole(members: &[Member]) -> bool
     left.is_empty()
 }
 
-/// The rows behind a member. `None` where its name isn't greater than the last one, a row before it is missing, or its
-/// value is to be that of its row.
+/// The rows behind a member. `None` where its name isn't greater than the last one, a row before it
+/// is missing, or its value is to be that of its row.
 fn rows_behind(
     rows: &'static [Row],
     last: Option<&Member>,
@@ -89,7 +93,8 @@ fn rows_behind(
     ensures rise { IfSome result (λ behind. RiseAfter member.now.name (map row_pair behind.now)) }
     ensures whole { IfSome result (λ behind. (others : Items Pair)
         → IsWholeAfter member.now.name (map row_pair behind.now) others
-        → IsWholeAfter (name_of (option_copied last.entry)) (map row_pair rows.now) (pair_of member.now ∷ others)) }
+        → IsWholeAfter (name_of (option_copied last.entry)) (map row_pair rows.now)
+        (pair_of member.now ∷ others)) }
 {
     let name = member.name.as_bytes();
     if let Some((row, others)) = rows.split_first() {
@@ -127,7 +132,8 @@ fn is_less(name: &[u8], other: &[u8]) -> bool
     bytes_order(name, other).is_lt()
 }
 
-/// The first 8 bytes of a name as one number, the first of them the highest, with zeros behind a shorter name.
+/// The first 8 bytes of a name as one number, the first of them the highest, with zeros behind a
+/// shorter name.
 fn front_of(name: &[u8]) -> u64
     ensures { result ≡ from_be_bytes w64 name.now }
 {
@@ -139,8 +145,8 @@ fn front_of(name: &[u8]) -> u64
     u64::from_be_bytes(bytes)
 }
 
-/// Fills up the members, whose names rise: puts the defaults of those that are missing between them, and in the place
-/// of a null.
+/// Fills up the members, whose names rise: puts the defaults of those that are missing between
+/// them, and in the place of a null.
 fn fill_up(members: &mut Vec<Member>) -> Result<(), AllocError>
     ensures { OnOk result (pairs members.new.items ≡ merged (pairs members.old.items) defaults) }
 {
@@ -163,7 +169,8 @@ fn fill_up(members: &mut Vec<Member>) -> Result<(), AllocError>
     Ok(())
 }
 
-/// How the name of the row compares to that of the member at the place; behind the members it is less.
+/// How the name of the row compares to that of the member at the place; behind the members it is
+/// less.
 fn order_at(members: &[Member], place: usize, row: &Row) -> Ordering
     ensures { result ≡ option_map_or (λ member. slice_cmp nat_cmp row.now.name.now member.name)
         (slice_get members.now place) Less }

@@ -29,20 +29,25 @@ bracket = 93 ∷ []
 closed_twice : (texts : List ℕ) → texts ++ (bracket ++ (brace ++ brace)) ≡ ((texts ++ bracket) ++ brace) ++ brace
 closed_twice texts = sym (append_assoc (texts ++ bracket) brace brace ∙ append_assoc texts bracket (brace ++ brace))
 
-pub init-written : (elements : List ElementValue) (empty opened filled closed : List ℕ) → empty ≡ [] → opened ≡ empty ++ init_front
-    → filled ≡ opened ++ join_with_byte 44 (map element_text elements) → closed ≡ filled ++ (bracket ++ (brace ++ brace)) → closed ≡ message_text (Init elements)
+pub init-written : (elements : List ElementValue) (empty opened filled closed : List ℕ) → empty ≡ []
+    → opened ≡ empty ++ init_front
+    → filled ≡ opened ++ join_with_byte 44 (map element_text elements)
+    → closed ≡ filled ++ (bracket ++ (brace ++ brace)) → closed ≡ message_text (Init elements)
 unfolding message_text object_text array_text quote
 init-written elements empty opened filled closed none one two three =
     let texts = join_with_byte 44 (map element_text elements) in
-    three ∙ ap (λ x. x ++ (bracket ++ (brace ++ brace))) (two ∙ ap (λ x. x ++ texts) (one ∙ ap (λ x. x ++ init_front) none))
+    three ∙ ap (λ x. x ++ (bracket ++ (brace ++ brace))) (two
+    ∙ ap (λ x. x ++ texts) (one ∙ ap (λ x. x ++ init_front) none))
     ∙ append_assoc init_front texts (bracket ++ (brace ++ brace))
     ∙ ap (λ x. init_front ++ x) (closed_twice texts)
 
 abbrev invalid_front : List ℕ
 invalid_front = codes "{\"type\":\"INVALID_RESPONSE\",\"payload\":{\"fault\":"
 
-pub invalid-written : (fault : MsgFault) (empty opened filled closed : List ℕ) → empty ≡ [] → opened ≡ empty ++ invalid_front
-    → filled ≡ opened ++ quote (message_fault_words fault) → closed ≡ filled ++ (brace ++ brace) → closed ≡ invalid_text fault
+pub invalid-written : (fault : MsgFault) (empty opened filled closed : List ℕ) → empty ≡ []
+    → opened ≡ empty ++ invalid_front
+    → filled ≡ opened ++ quote (message_fault_words fault) → closed ≡ filled ++ (brace ++ brace)
+    → closed ≡ invalid_text fault
 unfolding object_text quote
 invalid-written fault empty opened filled closed none one two three =
     let words = quote (message_fault_words fault) in

@@ -24,7 +24,8 @@ use Rattle.room_core.proofs.Served.{below_limits, fewer, left_of, never_fault, n
 use Rattle.room_core.proofs.Traces.{round-rises}
 
 -- ---- what is stored once updates were taken
-taken-exists : (old taken : List ElementValue) → are_rising (ids_of old) ≡ true → (new : List ElementValue) × HaveTaken old taken new
+taken-exists : (old taken : List ElementValue) → are_rising (ids_of old) ≡ true → (new : List ElementValue)
+    × HaveTaken old taken new
 taken-exists old taken rises =
     let all = stored-exist (old ++ taken) in
     let own = AreStored-itself old rises in (
@@ -40,7 +41,8 @@ taken-exists old taken rises =
 -- ---- texts that are tried, some of which are lost by choice
 abbrev tries-by : (ℕ → Bool) → ℕ → List (ℕ × List ℕ) → List Try
 tries-by is_lost n [] = []
-tries-by is_lost n (text ∷ texts) = record { link = text.0; text = text.1; is_sent = not (is_lost n) } ∷ tries-by is_lost (n + 1) texts
+tries-by is_lost n (text ∷ texts) =
+    record { link = text.0; text = text.1; is_sent = not (is_lost n) } ∷ tries-by is_lost (n + 1) texts
 
 tried-by : (is_lost : ℕ → Bool) (n : ℕ) (texts : List (ℕ × List ℕ)) → texts_tried (tries-by is_lost n texts) ≡ texts
 tried-by is_lost n [] = refl
@@ -50,14 +52,17 @@ lost-by : (is_lost : ℕ → Bool) (n : ℕ) (texts : List (ℕ × List ℕ)) �
 lost-by is_lost n [] = tt
 lost-by is_lost n (text ∷ texts) = (refl, lost-by is_lost (n + 1) texts)
 
-lost-append : (is_lost : ℕ → Bool) (n : ℕ) (ts us : List Try) → AreLostBy is_lost n ts → AreLostBy is_lost (n + length ts) us → AreLostBy is_lost n (ts ++ us)
-lost-append is_lost n [] us first second = let same : n + 0 ≡ n = omega arith in subst (λ m. AreLostBy is_lost m us) same second
+lost-append : (is_lost : ℕ → Bool) (n : ℕ) (ts us : List Try) → AreLostBy is_lost n ts
+    → AreLostBy is_lost (n + length ts) us → AreLostBy is_lost n (ts ++ us)
+lost-append is_lost n [] us first second =
+    let same : n + 0 ≡ n = omega arith in subst (λ m. AreLostBy is_lost m us) same second
 lost-append is_lost n (t ∷ ts) us first second =
     let same : n + length (t ∷ ts) ≡ n + 1 + length ts = omega arith in
     (first.0, lost-append is_lost (n + 1) ts us first.1 (subst (λ m. AreLostBy is_lost m us) same second))
 
 -- ---- an event that opens one link too many
-full-event : (opened links : ℕ) (event : LinkEvent) → opened ≤ links → links < opened + opening_of event → (opened ≡ links) × ((link : ℕ) × (event ≡ Opened link))
+full-event : (opened links : ℕ) (event : LinkEvent) → opened ≤ links → links < opened + opening_of event
+    → (opened ≡ links) × ((link : ℕ) × (event ≡ Opened link))
 full-event opened links (Opened link) within over = (omega arith, (link, refl))
 full-event opened links (Text link bytes) within over = absurd (omega arith)
 full-event opened links (Closed link) within over = absurd (omega arith)
@@ -77,7 +82,8 @@ record Ended (limits : RoomLimits) (now : Serving) (script : List LinkEvent) (is
   no_memory : final ≢ Memory
   no_fault : final ≢ LinkFault
 
-ended-at : (limits : RoomLimits) (now : Serving) (script : List LinkEvent) (is_lost : ℕ → Bool) (n : ℕ) (final : ServeEnd) → end_of limits now ≡ Some final → Ended limits now script is_lost n
+ended-at : (limits : RoomLimits) (now : Serving) (script : List LinkEvent) (is_lost : ℕ
+    → Bool) (n : ℕ) (final : ServeEnd) → end_of limits now ≡ Some final → Ended limits now script is_lost n
 ended-at limits now script is_lost n AllClosed is = record {
   rounds = [];
   last = None;
@@ -123,7 +129,8 @@ ended-at limits now script is_lost n Memory is = absurd (never_memory _ _ _ is)
 
 module _ (reads : (bytes : List ℕ) → (answer : Result Message MsgFault) × IsReadAs bytes answer) where
   text-heard : (link : ℕ) (bytes : List ℕ) (b : Bool)
-      → (happening : Happening) × MatchBool b ((answer : Result Message MsgFault) × IsReadAs bytes answer × (happening ≡ Heard link answer)) (happening ≡ Nothing)
+      → (happening : Happening) × MatchBool b ((answer : Result Message MsgFault) × IsReadAs bytes answer
+      × (happening ≡ Heard link answer)) (happening ≡ Nothing)
   text-heard link bytes true = let read = reads bytes in (Heard link read.0, (read.0, read.1, refl))
   text-heard link bytes false = (Nothing, refl)
 
@@ -139,23 +146,39 @@ module _ (reads : (bytes : List ℕ) → (answer : Result Message MsgFault) × I
     is : IsRound room round
     lost : AreLostBy is_lost n round.tries
 
-  round-exists : (room : RoomState) (event : LinkEvent) (is_lost : ℕ → Bool) (n : ℕ) → are_rising (ids_of room.elements) ≡ true → RoundBy room event is_lost n
+  round-exists : (room : RoomState) (event : LinkEvent) (is_lost : ℕ → Bool) (n : ℕ)
+      → are_rising (ids_of room.elements) ≡ true → RoundBy room event is_lost n
   round-exists room event is_lost n rises =
       let heard = heard-exists room.joined event in
       let taken = taken-exists room.elements (taken_of heard.0) rises in
       let stepped : RoomState = record { elements = taken.0; joined = joined_after room.joined heard.0 } in
       let tries = tries-by is_lost n (texts_of room heard.0) in
       record {
-        round = record { event = event; happening = heard.0; stepped = stepped; tries = tries; after = record stepped { joined = without stepped.joined (links_gone tries) } };
+        round = record {
+          event = event;
+          happening = heard.0;
+          stepped = stepped;
+          tries = tries;
+          after =
+              record stepped { joined = without stepped.joined (links_gone tries) };
+        };
         of = refl;
-        is = record { heard = heard.1; stepped = record { elements = taken.1; joined = refl }; tried = tried-by is_lost n (texts_of room heard.0); after = refl };
+        is = record {
+          heard = heard.1;
+          stepped = record { elements = taken.1; joined = refl };
+          tried =
+              tried-by is_lost n (texts_of room heard.0);
+          after = refl;
+        };
         lost = lost-by is_lost n (texts_of room heard.0);
       }
 
   -- what ends the room after one more round
-  ended-then : (limits : RoomLimits) (now : Serving) (script : List LinkEvent) (is_lost : ℕ → Bool) (n : ℕ) (by : RoundBy now.room (next_event script) is_lost n)
+  ended-then : (limits : RoomLimits) (now : Serving) (script : List LinkEvent) (is_lost : ℕ
+      → Bool) (n : ℕ) (by : RoundBy now.room (next_event script) is_lost n)
       → end_of limits now ≡ None → now.opened + opening_of (next_event script) ≤ limits.links
-      → Ended limits (serving_after now by.round) (drop 1 script) is_lost (n + length by.round.tries) → Ended limits now script is_lost n
+      → Ended limits (serving_after now by.round) (drop 1 script) is_lost (n + length by.round.tries)
+      → Ended limits now script is_lost n
   ended-then limits now script is_lost n by running within rest = record {
     rounds = by.round ∷ rest.rounds;
     last = rest.last;
@@ -171,8 +194,11 @@ module _ (reads : (bytes : List ℕ) → (answer : Result Message MsgFault) × I
   }
 
   -- what ends the room before its next event, or after it
-  ended-next : (limits : RoomLimits) (now : Serving) (script : List LinkEvent) (is_lost : ℕ → Bool) (n : ℕ) → are_rising (ids_of now.room.elements) ≡ true → now.opened ≤ limits.links
-      → ((next : Serving) (m : ℕ) → left_of limits next < left_of limits now → are_rising (ids_of next.room.elements) ≡ true → next.opened ≤ limits.links → Ended limits next (drop 1 script) is_lost m)
+  ended-next : (limits : RoomLimits) (now : Serving) (script : List LinkEvent) (is_lost : ℕ → Bool) (n : ℕ)
+      → are_rising (ids_of now.room.elements) ≡ true → now.opened ≤ limits.links
+      → ((next : Serving) (m : ℕ) → left_of limits next < left_of limits now
+      → are_rising (ids_of next.room.elements) ≡ true → next.opened ≤ limits.links
+      → Ended limits next (drop 1 script) is_lost m)
       → Ended limits now script is_lost n
   ended-next limits now script is_lost n rises within more = by (end_of limits now) refl
     where
@@ -207,23 +233,30 @@ module _ (reads : (bytes : List ℕ) → (answer : Result Message MsgFault) × I
 
       by : (o : Option ServeEnd) → end_of limits now ≡ o → Ended limits now script is_lost n
       by (Some final) is = ended-at limits now script is_lost n final is
-      by None is = elim (cases_lt limits.links (now.opened + opening_of event)) [ inl over ↦ full is over | inr inside ↦ on is (omega (arith, inside)) ]
+      by None is = elim (cases_lt limits.links (now.opened + opening_of event)) [
+        | inl over ↦ full is over
+        | inr inside ↦ on is (omega (arith, inside))
+      ]
 
-  ended : (fuel : ℕ) (limits : RoomLimits) (now : Serving) (script : List LinkEvent) (is_lost : ℕ → Bool) (n : ℕ) → left_of limits now < fuel
+  ended : (fuel : ℕ) (limits : RoomLimits) (now : Serving) (script : List LinkEvent) (is_lost : ℕ → Bool) (n : ℕ)
+      → left_of limits now < fuel
       → are_rising (ids_of now.room.elements) ≡ true → now.opened ≤ limits.links → Ended limits now script is_lost n
   ended zero limits now script is_lost n left rises within = absurd (omega (arith, left))
   ended (suc fuel) limits now script is_lost n left rises within =
       ended-next limits now script is_lost n rises within
-      (λ next m falls rise inside. ended fuel limits next (drop 1 script) is_lost m (omega (arith, left, falls)) rise inside)
+      (λ next m falls rise inside. ended fuel limits next (drop 1 script) is_lost m (omega (arith, left, falls)) rise
+      inside)
 
-  told-all : (given events : List LinkEvent) (tries : List Try) → given ≡ events → Tells (links_told [] []) (links_told events tries) given (tries ++ [])
+  told-all : (given events : List LinkEvent) (tries : List Try) → given ≡ events
+      → Tells (links_told [] []) (links_told events tries) given (tries ++ [])
   told-all given events tries is = record {
     given = ap Some (sym is);
     sent = ap (λ (ts : List Try). Some (texts_sent ts)) (sym (append-nil tries));
     lost = ap (λ (ts : List Try). Some (texts_lost 0 ts)) (sym (append-nil tries));
   }
 
-  pub trace-exists : (limits : RoomLimits) (room : RoomState) (script : List LinkEvent) (is_lost : ℕ → Bool) → are_rising (ids_of room.elements) ≡ true → HasTrace limits room script is_lost
+  pub trace-exists : (limits : RoomLimits) (room : RoomState) (script : List LinkEvent) (is_lost : ℕ → Bool)
+      → are_rising (ids_of room.elements) ≡ true → HasTrace limits room script is_lost
   trace-exists limits room script is_lost rises =
       let start = at_start room in
       let all = ended (suc (left_of limits start)) limits start script is_lost 0 (omega arith) rises (omega arith) in
@@ -238,7 +271,8 @@ module _ (reads : (bytes : List ℕ) → (answer : Result Message MsgFault) × I
           last = all.last;
           last_tries = [];
           ended = all.ended;
-          told = told-all (events_of all.rounds ++ option_to_list all.last) (first_events all.count script) (tries_of all.rounds) all.given;
+          told = told-all (events_of all.rounds ++ option_to_list all.last) (first_events all.count script)
+              (tries_of all.rounds) all.given;
         };
         lost = all.lost;
         no_memory = all.no_memory;

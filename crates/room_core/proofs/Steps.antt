@@ -34,21 +34,32 @@ joined-stay joined (Init elements) = refl
 joined-stay joined (Update elements) = refl
 joined-stay joined (Presence value) = refl
 
-pub planned-joined : (old : RoomState) (link : ℕ) (links text : List ℕ) → links ≡ link ∷ [] → text ≡ message_text (Init old.elements)
-    → IsPlanned old (Opened link) (record { change = Join link; told = record { links = links; text = text }; own_record = None })
-planned-joined old link links text one is = record { happening = Joined link; heard = refl; told = rw (one, is) refl; taken = refl; joined = refl; kept = refl }
+pub planned-joined : (old : RoomState) (link : ℕ) (links text : List ℕ) → links ≡ link ∷ []
+    → text ≡ message_text (Init old.elements)
+    → IsPlanned old (Opened link) (record {
+      change = Join link;
+      told = record { links = links; text = text };
+      own_record = None;
+    })
+planned-joined old link links text one is =
+    record { happening = Joined link; heard = refl; told = rw (one, is) refl; taken = refl; joined = refl; kept = refl }
 
-pub planned-ignored : (old : RoomState) (link : ℕ) (bytes : List ℕ) → is_among old.joined link ≡ false → IsPlanned old (Text link bytes) (quiet Unchanged)
-planned-ignored old link bytes other = record { happening = Nothing; heard = rw other refl; told = refl; taken = refl; joined = refl; kept = refl }
+pub planned-ignored : (old : RoomState) (link : ℕ) (bytes : List ℕ) → is_among old.joined link ≡ false
+    → IsPlanned old (Text link bytes) (quiet Unchanged)
+planned-ignored old link bytes other =
+    record { happening = Nothing; heard = rw other refl; told = refl; taken = refl; joined = refl; kept = refl }
 
 pub planned-closed : (old : RoomState) (link : ℕ) → IsPlanned old (Closed link) (quiet (Leave link))
-planned-closed old link = record { happening = Left (link ∷ []); heard = refl; told = refl; taken = refl; joined = refl; kept = refl }
+planned-closed old link =
+    record { happening = Left (link ∷ []); heard = refl; told = refl; taken = refl; joined = refl; kept = refl }
 
 pub planned-idle : (old : RoomState) → IsPlanned old Idle (quiet Unchanged)
 planned-idle old = record { happening = Nothing; heard = refl; told = refl; taken = refl; joined = refl; kept = refl }
 
-pub planned-message : (old : RoomState) (sender : ℕ) (bytes : List ℕ) (message : Message) (plan : Plan) → is_among old.joined sender ≡ true → IsReadAs bytes (Ok message)
-    → texts_told plan.told ≡ text_for_each (without old.joined (sender ∷ [])) (message_text message) → plan.change ≡ change_by message
+pub planned-message : (old : RoomState) (sender : ℕ) (bytes : List ℕ) (message : Message) (plan : Plan)
+    → is_among old.joined sender ≡ true → IsReadAs bytes (Ok message)
+    → texts_told plan.told ≡ text_for_each (without old.joined (sender ∷ [])) (message_text message)
+    → plan.change ≡ change_by message
     → record_in plan ≡ record_of_message message → IsPlanned old (Text sender bytes) plan
 planned-message old sender bytes message plan member read told change kept = record {
   happening = Heard sender (Ok message);
@@ -59,9 +70,14 @@ planned-message old sender bytes message plan member read told change kept = rec
   kept = kept;
 }
 
-pub planned-fault : (old : RoomState) (sender : ℕ) (bytes : List ℕ) (fault : MsgFault) (links text : List ℕ) → is_among old.joined sender ≡ true
+pub planned-fault : (old : RoomState) (sender : ℕ) (bytes : List ℕ) (fault : MsgFault) (links text : List ℕ)
+    → is_among old.joined sender ≡ true
     → IsReadAs bytes (Err fault) → links ≡ sender ∷ [] → text ≡ invalid_text fault
-    → IsPlanned old (Text sender bytes) (record { change = Unchanged; told = record { links = links; text = text }; own_record = None })
+    → IsPlanned old (Text sender bytes) (record {
+      change = Unchanged;
+      told = record { links = links; text = text };
+      own_record = None;
+    })
 planned-fault old sender bytes fault links text member read one is = record {
   happening = Heard sender (Err fault);
   heard = rw member (Err fault, read, refl);
@@ -71,16 +87,21 @@ planned-fault old sender bytes fault links text member read one is = record {
   kept = refl;
 }
 
-pub relay-planned : (joined : List ℕ) (sender : ℕ) (bytes : List ℕ) (message : Message) (r : Result Plan AllocError) → is_among joined sender ≡ true → IsReadAs bytes (Ok message)
-    → IfOk r (λ plan. texts_told plan.told ≡ text_for_each (without joined (sender ∷ [])) (message_text message)) → IfOk r (λ plan. plan.change ≡ change_by message)
+pub relay-planned : (joined : List ℕ) (sender : ℕ) (bytes : List ℕ) (message : Message) (r : Result Plan AllocError)
+    → is_among joined sender ≡ true → IsReadAs bytes (Ok message)
+    → IfOk r (λ plan. texts_told plan.told ≡ text_for_each (without joined (sender ∷ [])) (message_text message))
+    → IfOk r (λ plan. plan.change ≡ change_by message)
     → IfOk r (λ plan. record_in plan ≡ record_of_message message)
-    → IfOk r (λ plan. (elements : List ElementValue) → IsPlanned (record { elements = elements; joined = joined }) (Text sender bytes) plan)
+    → IfOk r (λ plan. (elements : List ElementValue)
+    → IsPlanned (record { elements = elements; joined = joined }) (Text sender bytes) plan)
 relay-planned joined sender bytes message (Ok plan) member read told change kept =
-    λ elements. planned-message (record { elements = elements; joined = joined }) sender bytes message plan member read told change kept
+    λ elements. planned-message (record { elements = elements; joined = joined }) sender bytes message plan member read
+    told change kept
 relay-planned joined sender bytes message (Err e) member read told change kept = tt
 
 -- a plan that is put makes the step of the event that it was planned for
-pub put-stepped : (old new : RoomState) (event : LinkEvent) (plan : Plan) → IsPlanned old event plan → IsChanged old plan.change new → IsRoomStep old event new (texts_told plan.told)
+pub put-stepped : (old new : RoomState) (event : LinkEvent) (plan : Plan) → IsPlanned old event plan
+    → IsChanged old plan.change new → IsRoomStep old event new (texts_told plan.told)
 put-stepped old new event plan planned changed = record {
   happening = planned.happening;
   heard = planned.heard;

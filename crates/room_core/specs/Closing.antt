@@ -13,9 +13,10 @@ pub record TellAll (links : LinksEnd) : Type 0 where
   pub sent : IsSome links.sent
   pub lost : IsSome links.lost
 
--- The links tell all. They told rounds that follow on one another, and then perhaps more. Before each round no link too
--- many was opened, fewer answers Idle came in a row than end the room, and fewer other events; and after the last one,
--- and no earlier one, a link was opened and none is joined.
+-- The links tell all. They told rounds that follow on one another, and then perhaps more. Before
+-- each round no link too many was opened, fewer answers Idle came in a row than end the room, and
+-- fewer other events; and after the last one, and no earlier one, a link was opened and none is
+-- joined.
 pub record LeadToClose (limits : RoomLimits) (now : Serving)
     (before after : LinksEnd) : Type 0 where
   pub tell : TellAll before

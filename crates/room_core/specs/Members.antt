@@ -28,8 +28,8 @@ AreSteps room (step ∷ steps) last =
 abbrev pub has_message : List ℕ → ℕ → ℕ → Bool
 has_message joined sender link = sender == link || is_among (without joined (sender ∷ [])) link
 
--- The updates that a link has once this happened: those of the text with all elements since it joined last, of the
--- messages that it was sent, and of its own.
+-- The updates that a link has once this happened: those of the text with all elements since it
+-- joined last, of the messages that it was sent, and of its own.
 abbrev pub updates_after : ℕ → RoomState → List ElementValue → Happening → List ElementValue
 updates_after link room had (Joined other) = if other == link then room.elements else had
 updates_after link room had (Heard sender (Ok message)) =

@@ -77,7 +77,8 @@ recorded Unchanged own text = None
 abbrev pub record_in : Plan → Option (List ℕ)
 record_in plan = recorded plan.change plan.own_record plan.told.text
 
--- What is planned for an event: what happened, the texts that this gives, what it changes, and its record.
+-- What is planned for an event: what happened, the texts that this gives, what it changes, and its
+-- record.
 pub record IsPlanned (old : RoomState) (event : LinkEvent) (plan : Plan) : Type 0 where
   pub happening : Happening
   pub heard : IsHeardAs old.joined event happening

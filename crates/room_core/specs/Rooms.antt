@@ -1,5 +1,5 @@
--- A room, and what one event of its links gives. After Excalidraw's collaboration; the order of the texts, and that a
--- fault is told to its sender, is this project's own.
+-- A room, and what one event of its links gives. After Excalidraw's collaboration; the order of the
+-- texts, and that a fault is told to its sender, is this project's own.
 use Rattle.std.specs.Prelude.{◌≡◌, ℕ, ◌==◌, nat_lt, List, [], ◌∷◌, ◌++◌, Bool, not, filter, map, codes, Result, Ok, Err, MatchBool}
 use Rattle.std.specs.List.{list_any}
 use Rattle.json_text.specs.Characters.{quote}
@@ -20,8 +20,8 @@ pub record RoomState : Type 0 where
   pub elements : List ElementValue
   pub joined : List ℕ
 
--- A room as a value: its state; and how many new ids, and how many new links, there is room for. "As before" is said of
--- the state: what there is room for may have grown.
+-- A room as a value: its state; and how many new ids, and how many new links, there is room for.
+-- "As before" is said of the state: what there is room for may have grown.
 pub record RoomStock : Type 0 where
   pub state : RoomState
   pub spare_ids : ℕ
@@ -40,15 +40,16 @@ with_link links link =
 abbrev pub without : List ℕ → List ℕ → List ℕ
 without links gone = filter (λ other. not (is_among gone other)) links
 
--- What happened in a room: a link joined; bytes of a joined link were read as a message, or as no message; links left;
--- or nothing that counts.
+-- What happened in a room: a link joined; bytes of a joined link were read as a message, or as no
+-- message; links left; or nothing that counts.
 pub data Happening : Type 0 where
   Joined : (link : ℕ) → Happening
   Heard : (link : ℕ) (answer : Result Message MsgFault) → Happening
   Left : (links : List ℕ) → Happening
   Nothing : Happening
 
--- What an event is to a room with these joined links. Bytes of a link that isn't joined don't count.
+-- What an event is to a room with these joined links. Bytes of a link that isn't joined don't
+-- count.
 abbrev pub IsHeardAs : List ℕ → LinkEvent → Happening → Type 0
 IsHeardAs joined (Opened link) happening = happening ≡ Joined link
 IsHeardAs joined (Text link bytes) happening =
@@ -81,14 +82,16 @@ joined_after joined Nothing = joined
 -- the text that tells a link of the fault of its message
 abbrev pub invalid_text : MsgFault → List ℕ
 invalid_text fault =
-    object_text ((codes "type", quote (codes "INVALID_RESPONSE")) ∷ (codes "payload", object_text ((codes "fault", quote (message_fault_words fault)) ∷ [])) ∷ [])
+    object_text ((codes "type", quote (codes "INVALID_RESPONSE"))
+    ∷ (codes "payload", object_text ((codes "fault", quote (message_fault_words fault)) ∷ []))
+    ∷ [])
 
 -- a text for each of these links
 abbrev pub text_for_each : List ℕ → List ℕ → List (ℕ × List ℕ)
 text_for_each links text = map (λ link. (link, text)) links
 
--- The texts that a room sends where this happened: one that joins gets all stored elements; a message goes to each
--- other joined link, in rising order; a fault is told to the sender alone.
+-- The texts that a room sends where this happened: one that joins gets all stored elements; a
+-- message goes to each other joined link, in rising order; a fault is told to the sender alone.
 abbrev pub texts_of : RoomState → Happening → List (ℕ × List ℕ)
 texts_of room (Joined link) = (link, message_text (Init room.elements)) ∷ []
 texts_of room (Heard link (Ok message)) =

@@ -15,8 +15,8 @@ abbrev pub first_events : ℕ → List LinkEvent → List LinkEvent
 first_events zero script = []
 first_events (suc count) script = next_event script ∷ first_events count (drop 1 script)
 
--- Of these texts, numbered on from this one, those with the chosen numbers found their link gone, and the others were
--- sent.
+-- Of these texts, numbered on from this one, those with the chosen numbers found their link gone,
+-- and the others were sent.
 abbrev pub AreLostBy : (ℕ → Bool) → ℕ → List Try → Type 0
 AreLostBy is_lost number [] = Unit {0}
 AreLostBy is_lost number (try ∷ tries) =
@@ -34,9 +34,9 @@ links_told events tries = record {
   gone = 0;
 }
 
--- A room has a trace over a script, of whose texts those with the chosen numbers find their link gone: it is served
--- over links that told just the first events of the script, to an end that is neither want of memory nor a fault of the
--- links.
+-- A room has a trace over a script, of whose texts those with the chosen numbers find their link
+-- gone: it is served over links that told just the first events of the script, to an end that is
+-- neither want of memory nor a fault of the links.
 pub record HasTrace (limits : RoomLimits) (room : RoomState) (script : List LinkEvent) (is_lost : ℕ
     → Bool) : Type 0 where
   pub new : RoomState

@@ -12,8 +12,8 @@ use Rattle.room_core.specs.declared.limits.RoomLimits.{RoomLimits}
 use Rattle.room_core.specs.declared.limits.ServeEnd.{ServeEnd}
 use Rattle.room_core.specs.declared.limits.ServeEnd.TheVariants.{AllClosed, Idle as IdleEnd, LinkFault, LinksFull, EventsFull, Memory}
 
--- A room under way: how many links were opened, how many events other than Idle were stepped, and how many answers Idle
--- came last in a row.
+-- A room under way: how many links were opened, how many events other than Idle were stepped, and
+-- how many answers Idle came last in a row.
 pub record Serving : Type 0 where
   pub room : RoomState
   pub opened : ℕ
@@ -24,8 +24,8 @@ pub record Serving : Type 0 where
 abbrev pub at_start : RoomState → Serving
 at_start room = record { room = room; opened = 0; stepped = 0; idles = 0 }
 
--- An event that was stepped whole: what happened, the room then, the texts that were tried, and the room without the
--- links that were gone.
+-- An event that was stepped whole: what happened, the room then, the texts that were tried, and the
+-- room without the links that were gone.
 pub record Round : Type 0 where
   pub event : LinkEvent
   pub happening : Happening
@@ -38,7 +38,10 @@ pub record IsRound (room : RoomState) (round : Round) : Type 0 where
   pub heard : IsHeardAs room.joined round.event round.happening
   pub stepped : IsRoomAfter room round.happening round.stepped
   pub tried : texts_tried round.tries ≡ texts_of room round.happening
-  pub after : round.after ≡ record round.stepped { joined = without round.stepped.joined (links_gone round.tries) }
+  pub after : round.after ≡ record round.stepped {
+    joined =
+        without round.stepped.joined (links_gone round.tries);
+  }
 
 -- how many events are counted for this one
 abbrev pub step_count : LinkEvent → ℕ
@@ -69,8 +72,8 @@ abbrev pub is_none_joined : List ℕ → Bool
 is_none_joined [] = true
 is_none_joined (link ∷ links) = false
 
--- what ends a room by these counts: a link was opened and none is joined; else enough events were stepped; or Idle came
--- often enough in a row
+-- what ends a room by these counts: a link was opened and none is joined; else enough events were
+-- stepped; or Idle came often enough in a row
 abbrev pub end_by : RoomLimits → ℕ → ℕ → ℕ → List ℕ → Option ServeEnd
 end_by limits opened stepped idles joined =
     if nat_lt 0 opened && is_none_joined joined then Some AllClosed
@@ -81,16 +84,16 @@ end_by limits opened stepped idles joined =
 abbrev pub end_of : RoomLimits → Serving → Option ServeEnd
 end_of limits now = end_by limits now.opened now.stepped now.idles now.room.joined
 
--- Each round follows on the one before it; nothing had ended the room before any of them, and none opened one link too
--- many.
+-- Each round follows on the one before it; nothing had ended the room before any of them, and none
+-- opened one link too many.
 abbrev pub AreRounds : RoomLimits → Serving → List Round → Type 0
 AreRounds limits now [] = Unit {0}
 AreRounds limits now (round ∷ rounds) =
     (end_of limits now ≡ None) × (now.opened + opening_of round.event ≤ limits.links)
     × IsRound now.room round × AreRounds limits (serving_after now round) rounds
 
--- A step that ended for want of memory: it was not made, and nothing was sent; or it was made, and the first of its
--- texts were tried.
+-- A step that ended for want of memory: it was not made, and nothing was sent; or it was made, and
+-- the first of its texts were tried.
 pub record IsHalfStep (room : RoomState) (event : LinkEvent) (new : RoomState)
     (tries : List Try) : Type 0 where
   pub happening : Happening
@@ -104,8 +107,8 @@ IsCutShort room None new tries = (new ≡ room) × (tries ≡ [])
 IsCutShort room (Some event) new tries =
     ((new ≡ room) × (tries ≡ [])) ⊎ IsHalfStep room event new tries
 
--- The end of a room under way after its whole rounds, by its cause; the last event, if one was given that was not
--- stepped whole, and the texts tried for it.
+-- The end of a room under way after its whole rounds, by its cause; the last event, if one was
+-- given that was not stepped whole, and the texts tried for it.
 abbrev pub EndsBy : RoomLimits → Serving → Option LinkEvent → RoomState → List Try → ServeEnd
     → Type 0
 EndsBy limits now last new tries LinkFault =
@@ -118,8 +121,8 @@ EndsBy limits now last new tries Memory =
 EndsBy limits now last new tries end =
     (end_of limits now ≡ Some end) × (last ≡ None) × (new ≡ now.room) × (tries ≡ [])
 
--- A room was served from here on to its end: rounds, and then what ended it; and the links told just these events, and
--- the texts tried for them.
+-- A room was served from here on to its end: rounds, and then what ended it; and the links told
+-- just these events, and the texts tried for them.
 pub record IsServed (limits : RoomLimits) (now : Serving) (new : RoomState)
     (before after : LinksEnd) (end : ServeEnd) : Type 0 where
   pub rounds : List Round
@@ -139,7 +142,8 @@ steps_of (round ∷ rounds) =
 
 -- a room under way with these counts
 abbrev pub serving_of : RoomState → Tally → Serving
-serving_of room tally = record { room = room; opened = tally.opened; stepped = tally.stepped; idles = tally.idles }
+serving_of room tally =
+    record { room = room; opened = tally.opened; stepped = tally.stepped; idles = tally.idles }
 
 -- One event was served: a round, and the texts that were tried for it are told.
 pub record IsServedEvent (room : RoomState) (event : LinkEvent) (new : RoomState)

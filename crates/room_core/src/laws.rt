@@ -21,7 +21,8 @@ pub fn hearing_is_unique()
         → IsHeardAs joined event happening → IsHeardAs joined event other → happening ≡ other }
 {}
 
-/// What the updates of a joined link store is what the room stores, after steps from a room without links on.
+/// What the updates of a joined link store is what the room stores, after steps from a room without
+/// links on.
 pub fn member_stores_the_room()
     ensures { (link : ℕ) (room last : RoomState) (steps : List Step) → room.joined ≡ []
         → are_rising (ids_of room.elements) ≡ true → AreSteps room steps last
@@ -50,8 +51,8 @@ pub fn rounds_are_steps()
         → AreSteps now.room (steps_of rounds) (serving_at now rounds).room }
 {}
 
-/// Where the links tell rounds within the limits after which a link was opened and none is joined, that ends the room,
-/// unless memory is wanted or the links fail. What rooms store plays no part.
+/// Where the links tell rounds within the limits after which a link was opened and none is joined,
+/// that ends the room, unless memory is wanted or the links fail. What rooms store plays no part.
 pub fn closing_ends_a_room()
     ensures { (limits : RoomLimits) (room other new : RoomState) (before after : LinksEnd)
         (end : ServeEnd)
@@ -73,8 +74,8 @@ pub fn serving_is_unique()
         → (one.rounds ≡ two.rounds) × (new ≡ other) × (end ≡ last) }
 {}
 
-/// Every script of events has a trace, whichever texts find their link gone: the room comes to an end by itself, with
-/// whole rounds before it.
+/// Every script of events has a trace, whichever texts find their link gone: the room comes to an
+/// end by itself, with whole rounds before it.
 pub fn every_script_has_a_trace()
     ensures { (limits : RoomLimits) (room : RoomState) (script : List LinkEvent) (is_lost : ℕ
         → Bool)

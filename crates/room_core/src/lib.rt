@@ -1,4 +1,5 @@
-//! Rooms: what one event of its links gives a room, and a room that is served over links to its end.
+//! Rooms: what one event of its links gives a room, and a room that is served over links to its
+//! end.
 #![tactic(auto)]
 
 mod changing;

@@ -26,7 +26,8 @@ pub enum Change {
     Unchanged,
 }
 
-/// A step that is planned: what it changes, what it tells, and its record where that isn't the text that is told.
+/// A step that is planned: what it changes, what it tells, and its record where that isn't the text
+/// that is told.
 #[derive(Drop)]
 pub struct Plan {
     pub change: Change,
@@ -35,8 +36,8 @@ pub struct Plan {
 }
 
 impl Plan {
-    /// The record of the step, for a journal: the text of the update with the elements that are taken, where the step
-    /// takes those of a message. It takes no memory.
+    /// The record of the step, for a journal: the text of the update with the elements that are
+    /// taken, where the step takes those of a message. It takes no memory.
     pub fn record(&self) -> Option<&Bytes>
         ensures { option_copied result ≡ record_in self.now }
     {

@@ -23,7 +23,8 @@ pub(crate) fn plan_step(
     event: &LinkEvent,
 ) -> Result<Plan, AllocError>
     ensures { IfOk result
-        (IsPlanned (record { elements = store.now.elements; joined = joined.now.items }) event.now) }
+        (IsPlanned (record { elements = store.now.elements; joined = joined.now.items })
+        event.now) }
 {
     let alloc = *joined.allocator();
     match event {
@@ -42,7 +43,11 @@ pub(crate) fn plan_step(
 
 /// A step that tells nothing.
 fn quiet(alloc: Global, change: Change) -> Plan
-    ensures { result ≡ record { change = change; told = record { links = []; text = [] }; own_record = None } }
+    ensures { result ≡ record {
+      change = change;
+      told = record { links = []; text = [] };
+      own_record = None;
+    } }
 {
     let told = Told {
         links: List::new(alloc),
@@ -79,7 +84,8 @@ fn one_link(alloc: Global, link: u64) -> Result<List<u64>, AllocError>
     Ok(List::from_vec(Vec::from_slice(alloc, &[link])?))
 }
 
-/// Reads what came over a joined link: the message goes on to the others, or the link is told of its fault.
+/// Reads what came over a joined link: the message goes on to the others, or the link is told of
+/// its fault.
 fn plan_hear(joined: &Vec<u64>, sender: u64, bytes: &Bytes) -> Result<Plan, AllocError>
     requires { is_among joined.now.items sender ≡ true }
     ensures { IfOk result (λ plan. (elements : Items ElementValue)

@@ -49,8 +49,9 @@ impl Room {
         }
     }
 
-    /// Plans the step of one event of the links: what it changes, the text to send and its links, and its record. What
-    /// wants memory is made here: there is then room for the change. The room is as before, also for want of memory.
+    /// Plans the step of one event of the links: what it changes, the text to send and its links,
+    /// and its record. What wants memory is made here: there is then room for the change. The room
+    /// is as before, also for want of memory.
     pub fn plan(&mut self, event: &LinkEvent) -> Result<Plan, AllocError>
         ensures planned { IfOk result (IsPlanned self.old.state event.now) }
         ensures fits { IfOk result (λ plan. FitsIn plan.change self.new) }
@@ -61,7 +62,8 @@ impl Room {
         Ok(plan)
     }
 
-    /// Puts a planned step in place, and gives the text to send. Elements are moved into the store. It takes no memory.
+    /// Puts a planned step in place, and gives the text to send. Elements are moved into the store.
+    /// It takes no memory.
     pub fn put(&mut self, plan: Plan) -> Told
         requires { FitsIn plan.change self.old }
         ensures told { result ≡ plan.told }
@@ -82,7 +84,10 @@ impl Room {
 
     /// Takes links out that are gone. It takes no memory.
     pub fn close_all(&mut self, gone: &[u64])
-        ensures { self.new.state ≡ record self.old.state { joined = without self.old.state.joined gone.now } }
+        ensures { self.new.state ≡ record self.old.state {
+          joined =
+              without self.old.state.joined gone.now;
+        } }
     {
         remove_links(&mut self.joined, gone);
     }

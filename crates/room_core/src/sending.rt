@@ -8,8 +8,8 @@ use crate::plan::Told;
 use board_ends::{Links, SendError};
 use std::alloc::{AllocError, Global};
 
-/// Tries the text on each of its links, also after one that is gone, and gives those that are gone. Want of memory ends
-/// it.
+/// Tries the text on each of its links, also after one that is gone, and gives those that are gone.
+/// Want of memory ends it.
 pub fn send_all<L: Links>(alloc: Global, links: &mut L, told: &Told) -> Result<Vec<u64>, AllocError>
     ensures tried { IfOk result (λ gone. HaveTried (L.seen links.old) (L.seen links.new)
         (texts_told told.now) gone.items []) }

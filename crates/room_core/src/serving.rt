@@ -11,9 +11,9 @@ use crate::tally::{Tally, opens_link};
 use board_ends::{LinkError, LinkEvent, Links};
 use std::alloc::{AllocError, Global};
 
-/// Steps the room by each event that the links give, and sends the texts of each step, until something ends it. Each
-/// text of a step is tried, also after one whose link is gone; then each link that is gone leaves the room as if it was
-/// closed.
+/// Steps the room by each event that the links give, and sends the texts of each step, until
+/// something ends it. Each text of a step is tried, also after one whose link is gone; then each
+/// link that is gone leaves the room as if it was closed.
 pub fn serve_room<L: Links>(
     alloc: Global,
     room: &mut Room,

@@ -7,7 +7,8 @@ ghost use Rattle.room_core.specs.Serving.{end_by, step_count, idles_after};
 use crate::limits::{RoomLimits, ServeEnd};
 use board_ends::LinkEvent;
 
-/// What was counted since a room is served: links opened, events stepped, and answers Idle last in a row.
+/// What was counted since a room is served: links opened, events stepped, and answers Idle last in
+/// a row.
 #[derive(Drop)]
 pub struct Tally {
     pub opened: u64,
@@ -52,7 +53,8 @@ impl Tally {
 
     /// What ends the room by now.
     pub fn end(&self, limits: &RoomLimits, joined: &[u64]) -> Option<ServeEnd>
-        ensures { result ≡ end_by limits.now self.now.opened self.now.stepped self.now.idles joined.now }
+        ensures { result ≡ end_by limits.now self.now.opened self.now.stepped self.now.idles
+            joined.now }
     {
         if self.opened > 0 && joined.is_empty() {
             Some(ServeEnd::AllClosed)

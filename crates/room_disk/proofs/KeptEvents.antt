@@ -32,7 +32,8 @@ links_gone-append ts us =
     ap (map (λ (try : Try). try.link)) (filter-append (λ (try : Try). not try.is_sent) ts us)
     ∙ map-append _ (filter (λ (try : Try). not try.is_sent) ts) (filter (λ (try : Try). not try.is_sent) us)
 
-pub tried-twice : (a b c : LinksEnd) (xs ys : List (ℕ × List ℕ)) (gone more : List ℕ) (rest : List (ℕ × List ℕ)) → HaveTried a b xs gone [] → HaveTried b c ys more rest → HaveTried a c (xs ++ ys) (gone ++ more) rest
+pub tried-twice : (a b c : LinksEnd) (xs ys : List (ℕ × List ℕ)) (gone more : List ℕ) (rest : List (ℕ × List ℕ))
+    → HaveTried a b xs gone [] → HaveTried b c ys more rest → HaveTried a c (xs ++ ys) (gone ++ more) rest
 tried-twice a b c xs ys gone more rest first second = record {
   tries = first.tries ++ second.tries;
   tried = ap₂ (λ x y. x ++ y) (first.tried ∙ append-nil (texts_tried first.tries)) second.tried
@@ -43,7 +44,8 @@ tried-twice a b c xs ys gone more rest first second = record {
 }
 
 -- where the first call was cut, nothing of the second was tried
-pub tried-first : (a b : LinksEnd) (xs ys : List (ℕ × List ℕ)) (gone : List ℕ) (rest : List (ℕ × List ℕ)) → HaveTried a b xs gone rest → HaveTried a b (xs ++ ys) gone (rest ++ ys)
+pub tried-first : (a b : LinksEnd) (xs ys : List (ℕ × List ℕ)) (gone : List ℕ) (rest : List (ℕ × List ℕ))
+    → HaveTried a b xs gone rest → HaveTried a b (xs ++ ys) gone (rest ++ ys)
 tried-first a b xs ys gone rest first = record {
   tries = first.tries;
   tried = ap (λ t. t ++ ys) first.tried ∙ append_assoc (texts_tried first.tries) rest ys;
@@ -61,36 +63,45 @@ heard_no_join link other answer same = cc
 heard_no_leave : (link : ℕ) (links : List ℕ) (answer : Result Message MsgFault) → Heard link answer ≡ Left links → ⊥
 heard_no_leave link links answer same = cc
 
-heard_link : (link other : ℕ) (answer found : Result Message MsgFault) → Heard link answer ≡ Heard other found → link ≡ other
+heard_link : (link other : ℕ) (answer found : Result Message MsgFault) → Heard link answer ≡ Heard other found
+    → link ≡ other
 heard_link link other answer found same = cc
 
 text_sender : (b : Bool) (other link : ℕ) (bytes : List ℕ) (answer : Result Message MsgFault)
-    → MatchBool b ((found : Result Message MsgFault) × IsReadAs bytes found × (Heard link answer ≡ Heard other found)) (Heard link answer ≡ Nothing) → other ≡ link
+    → MatchBool b ((found : Result Message MsgFault) × IsReadAs bytes found × (Heard link answer ≡ Heard other found))
+    (Heard link answer ≡ Nothing) → other ≡ link
 text_sender true other link bytes answer heard = sym (heard_link link other answer heard.0 heard.2)
 text_sender false other link bytes answer heard = absurd (heard_some link answer heard)
 
-heard_sender : (joined : List ℕ) (event : LinkEvent) (link : ℕ) (answer : Result Message MsgFault) → IsHeardAs joined event (Heard link answer) → sender_of event ≡ link
+heard_sender : (joined : List ℕ) (event : LinkEvent) (link : ℕ) (answer : Result Message MsgFault)
+    → IsHeardAs joined event (Heard link answer) → sender_of event ≡ link
 heard_sender joined (Opened other) link answer heard = absurd (heard_no_join link other answer heard)
-heard_sender joined (Text other bytes) link answer heard = text_sender (is_among joined other) other link bytes answer heard
+heard_sender joined (Text other bytes) link answer heard =
+    text_sender (is_among joined other) other link bytes answer heard
 heard_sender joined (Closed other) link answer heard = absurd (heard_no_leave link (other ∷ []) answer heard)
 heard_sender joined Idle link answer heard = absurd (heard_some link answer heard)
 
 module _ (joined : List ℕ) (event : LinkEvent) (count : ℕ) where
   -- the sender is told exactly of a message with a record
-  pub answers_of : (happening : Happening) → IsHeardAs joined event happening → kept_answers (sender_of event) count (record_heard happening) ≡ kept_texts count happening
+  pub answers_of : (happening : Happening) → IsHeardAs joined event happening
+      → kept_answers (sender_of event) count (record_heard happening) ≡ kept_texts count happening
   answers_of (Joined link) heard = refl
-  answers_of (Heard link (Ok (Init elements))) heard = ap (λ sender. (sender, kept_text (count + 1)) ∷ []) (heard_sender joined event link (Ok (Init elements)) heard)
-  answers_of (Heard link (Ok (Update elements))) heard = ap (λ sender. (sender, kept_text (count + 1)) ∷ []) (heard_sender joined event link (Ok (Update elements)) heard)
+  answers_of (Heard link (Ok (Init elements))) heard =
+      ap (λ sender. (sender, kept_text (count + 1)) ∷ []) (heard_sender joined event link (Ok (Init elements)) heard)
+  answers_of (Heard link (Ok (Update elements))) heard =
+      ap (λ sender. (sender, kept_text (count + 1)) ∷ []) (heard_sender joined event link (Ok (Update elements)) heard)
   answers_of (Heard link (Ok (Presence value))) heard = refl
   answers_of (Heard link (Err fault)) heard = refl
   answers_of (Left links) heard = refl
   answers_of Nothing heard = refl
 
-pub answers-by : (kept : List (ℕ × List ℕ)) (sender link count : ℕ) (text : Option (List ℕ)) → kept ≡ kept_answers sender count text → sender ≡ link → kept ≡ kept_answers link count text
+pub answers-by : (kept : List (ℕ × List ℕ)) (sender link count : ℕ) (text : Option (List ℕ))
+    → kept ≡ kept_answers sender count text → sender ≡ link → kept ≡ kept_answers link count text
 answers-by kept sender link count text is same = is ∙ ap (λ other. kept_answers other count text) same
 
 -- it is counted
-count_of : (count : ℕ) (happening : Happening) → count_with count (record_heard happening) ≡ count + length (messages_in happening)
+count_of : (count : ℕ) (happening : Happening) → count_with count (record_heard happening)
+    ≡ count + length (messages_in happening)
 count_of count (Joined link) = omega arith
 count_of count (Heard link (Ok (Init elements))) = refl
 count_of count (Heard link (Ok (Update elements))) = refl
@@ -130,30 +141,37 @@ few_heard (Heard link (Err fault)) = omega arith
 few_heard (Left links) = omega arith
 few_heard Nothing = omega arith
 
-pub few_steps : (joined : List ℕ) (event : LinkEvent) (happening : Happening) → IsHeardAs joined event happening → length (messages_in happening) ≤ step_count event
+pub few_steps : (joined : List ℕ) (event : LinkEvent) (happening : Happening) → IsHeardAs joined event happening
+    → length (messages_in happening) ≤ step_count event
 few_steps joined (Opened link) happening heard = few_heard happening
 few_steps joined (Text link bytes) happening heard = few_heard happening
 few_steps joined (Closed link) happening heard = few_heard happening
 few_steps joined Idle happening heard = rw heard (let none : 0 ≤ 0 = omega arith in none)
 
 -- ---- a step that was planned
-room-after : (old new : RoomState) (event : LinkEvent) (plan : Plan) → (planned : IsPlanned old event plan) → IsChanged old plan.change new → IsRoomAfter old planned.happening new
+room-after : (old new : RoomState) (event : LinkEvent) (plan : Plan) → (planned : IsPlanned old event plan)
+    → IsChanged old plan.change new → IsRoomAfter old planned.happening new
 room-after old new event plan planned changed = record {
   elements = subst (λ taken. HaveTaken old.elements taken new.elements) planned.taken changed.elements;
   joined = changed.joined ∙ planned.joined;
 }
 
-module _ (old new : RoomState) (event : LinkEvent) (plan : Plan) (planned : IsPlanned old event plan) (changed : IsChanged old plan.change new) (count : ℕ) (a b : LinksEnd) (ja jb : SinkEnd)
-    (kept : List (ℕ × List ℕ)) (answered : kept ≡ kept_answers (sender_of event) count (record_in plan)) (took : Took ja jb (record_bytes (record_in plan))) (synced : IsSynced jb) where
+module _ (old new : RoomState) (event : LinkEvent) (plan : Plan) (planned : IsPlanned old event plan)
+    (changed : IsChanged old plan.change new) (count : ℕ) (a b : LinksEnd) (ja jb : SinkEnd)
+    (kept : List (ℕ × List ℕ)) (answered : kept ≡ kept_answers (sender_of event) count (record_in plan))
+    (took : Took ja jb (record_bytes (record_in plan))) (synced : IsSynced jb) where
   texts_same : texts_told plan.told ++ kept ≡ step_texts count old planned.happening
-  texts_same = ap₂ (λ x y. x ++ y) planned.told (answered ∙ ap (kept_answers (sender_of event) count) planned.kept ∙ answers_of old.joined event count planned.happening planned.heard)
+  texts_same = ap₂ (λ x y. x ++ y) planned.told (answered ∙ ap (kept_answers (sender_of event) count) planned.kept
+      ∙ answers_of old.joined event count planned.happening planned.heard)
 
   took_same : Took ja jb (message_bytes (messages_in planned.happening))
   took_same = subst (Took ja jb) (ap record_bytes planned.kept ∙ bytes_heard planned.happening) took
 
   -- all its texts were tried
-  pub event-kept : (last : RoomState) (counted : ℕ) (gone closed : List ℕ) → HaveTried a b (texts_told plan.told ++ kept) gone [] → closed ≡ gone
-      → last ≡ record new { joined = without new.joined closed } → counted ≡ count_with count (record_in plan) → IsKeptEvent old count event last counted a b ja jb
+  pub event-kept : (last : RoomState) (counted : ℕ) (gone closed : List ℕ)
+      → HaveTried a b (texts_told plan.told ++ kept) gone [] → closed ≡ gone
+      → last ≡ record new { joined = without new.joined closed } → counted ≡ count_with count (record_in plan)
+      → IsKeptEvent old count event last counted a b ja jb
   event-kept last counted gone closed tried same left counts = record {
     round = record {
       event = event;
@@ -177,11 +195,13 @@ module _ (old new : RoomState) (event : LinkEvent) (plan : Plan) (planned : IsPl
   }
 
   told_safe : (tries : List Try) → IsSafeBy ja jb (message_bytes (told_last tries (messages_in planned.happening)))
-  told_safe [] = safe-less ja jb (message_bytes (messages_in planned.happening)) (safe-all ja jb (message_bytes (messages_in planned.happening)) took_same synced)
+  told_safe [] = safe-less ja jb (message_bytes (messages_in planned.happening))
+      (safe-all ja jb (message_bytes (messages_in planned.happening)) took_same synced)
   told_safe (try ∷ tries) = safe-all ja jb (message_bytes (messages_in planned.happening)) took_same synced
 
   -- the first of its texts were tried
-  pub event-cut : (gone : List ℕ) (rest : List (ℕ × List ℕ)) → HaveTried a b (texts_told plan.told ++ kept) gone rest → IsStoppedEvent old count event new a b ja jb Memory
+  pub event-cut : (gone : List ℕ) (rest : List (ℕ × List ℕ)) → HaveTried a b (texts_told plan.told ++ kept) gone rest
+      → IsStoppedEvent old count event new a b ja jb Memory
   event-cut gone rest tried = record {
     last = record { event = Some event; tries = tried.tries; messages = messages_in planned.happening };
     of = refl;
@@ -204,7 +224,8 @@ module _ (old new : RoomState) (event : LinkEvent) (plan : Plan) (planned : IsPl
   }
 
 -- ---- a step that wasn't made
-module _ (old new : RoomState) (event : LinkEvent) (same : new ≡ old) (count : ℕ) (a b : LinksEnd) (still : b ≡ a) (ja jb : SinkEnd) where
+module _ (old new : RoomState) (event : LinkEvent) (same : new ≡ old) (count : ℕ) (a b : LinksEnd) (still : b ≡ a)
+    (ja jb : SinkEnd) where
   quiet_links : Tells a b [] []
   quiet_links = rw still (tells-nothing a a refl refl refl)
 
@@ -221,7 +242,8 @@ module _ (old new : RoomState) (event : LinkEvent) (same : new ≡ old) (count :
     };
   }
 
-  held_back : (plan : Plan) → (planned : IsPlanned old event plan) → IsSynced ja → KeepsSafe ja jb → (text : List ℕ) → record_in plan ≡ Some text → HasGained (record_of text ∷ []) ja jb
+  held_back : (plan : Plan) → (planned : IsPlanned old event plan) → IsSynced ja → KeepsSafe ja jb → (text : List ℕ)
+      → record_in plan ≡ Some text → HasGained (record_of text ∷ []) ja jb
       → IsStoppedEvent old count event new a b ja jb JournalFault
   held_back plan planned synced keeps text is gained =
       let one = one_heard planned.happening text (sym planned.kept ∙ is) in
@@ -242,14 +264,17 @@ module _ (old new : RoomState) (event : LinkEvent) (same : new ≡ old) (count :
         );
         told = quiet_links;
         taken = record {
-          gained = subst (λ records. HasGained records ja jb) (sym (ap (map update_record) one.1 ∙ ap (λ t. record_of t ∷ []) one.2)) gained;
+          gained = subst (λ records. HasGained records ja jb)
+              (sym (ap (map update_record) one.1 ∙ ap (λ t. record_of t ∷ []) one.2)) gained;
           whole = λ other. absurd (other refl);
           safe = safe-still ja jb synced keeps;
         };
       }
 
-  pub event-stopped : (plan : Plan) → IsPlanned old event plan → IsSynced ja → KeepsSafe ja jb → (end : KeepEnd) → IsRecordStopped (record_in plan) ja jb end → IsStoppedEvent old count event new a b ja jb end
-  event-stopped plan planned synced keeps JournalFault stopped = held_back plan planned synced keeps stopped.0 stopped.1 stopped.2
+  pub event-stopped : (plan : Plan) → IsPlanned old event plan → IsSynced ja → KeepsSafe ja jb → (end : KeepEnd)
+      → IsRecordStopped (record_in plan) ja jb end → IsStoppedEvent old count event new a b ja jb end
+  event-stopped plan planned synced keeps JournalFault stopped =
+      held_back plan planned synced keeps stopped.0 stopped.1 stopped.2
   event-stopped plan planned synced keeps Memory stopped = event-unmade stopped synced
   event-stopped plan planned synced keeps AllClosed stopped = absurd stopped
   event-stopped plan planned synced keeps IdleEnd stopped = absurd stopped

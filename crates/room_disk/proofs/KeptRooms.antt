@@ -28,14 +28,18 @@ unmet : (limit : ℕ) → 1 ≤ limit → nat_le limit 0 ≡ false
 unmet limit least = grind (arith, nat_tests)
 
 -- nothing ends a room before its first event
-pub first-runs : (limits : RoomLimits) (room : RoomState) → 1 ≤ limits.events → 1 ≤ limits.idle → end_of limits (at_start room) ≡ None
+pub first-runs : (limits : RoomLimits) (room : RoomState) → 1 ≤ limits.events → 1 ≤ limits.idle
+    → end_of limits (at_start room) ≡ None
 first-runs limits room events idle = rw (unmet limits.events events, unmet limits.idle idle) refl
 
-pub opening-of : (head : Heading) (stored : List ElementValue) → IsWholeHead head → All IsWholeElement stored → HaveKeys stored → are_rising (ids_of stored) ≡ true → IsOpening head stored
-opening-of head stored whole each keys ordered = record { whole = whole; elements = each; keys = keys; ordered = ordered }
+pub opening-of : (head : Heading) (stored : List ElementValue) → IsWholeHead head → All IsWholeElement stored
+    → HaveKeys stored → are_rising (ids_of stored) ≡ true → IsOpening head stored
+opening-of head stored whole each keys ordered =
+    record { whole = whole; elements = each; keys = keys; ordered = ordered }
 
 module _ (law : AreRecovered) (head : Heading) (room : RoomState) (opening : IsOpening head room.elements) where
-  pub room-unopened : (links : LinksEnd) (ja jb : SinkEnd) (end : KeepEnd) → (end ≡ JournalFault) ⊎ (end ≡ Memory) → HasGained (opening_record head room.elements ∷ []) ja jb
+  pub room-unopened : (links : LinksEnd) (ja jb : SinkEnd) (end : KeepEnd) → (end ≡ JournalFault) ⊎ (end ≡ Memory)
+      → HasGained (opening_record head room.elements ∷ []) ja jb
       → IsUnopened head room room links links ja jb end
   room-unopened links ja jb end cause gained = record {
     cause = cause;
@@ -45,9 +49,12 @@ module _ (law : AreRecovered) (head : Heading) (room : RoomState) (opening : IsO
     stops = unopened-answer law head room.elements opening ja jb gained;
   }
 
-  pub room-kept : AreWholeRead → (limits : RoomLimits) (port : ℕ) (new : RoomState) (links listening links_after : LinksEnd) (ja jb jc : SinkEnd) (end : KeepEnd)
-      → Took ja jb (opening_record head room.elements) → Tells links listening [] [] → ListenOnce port links links_after end
-      → IsKeptOn limits (at_start room) 0 new listening links_after jb jc end → IsKept limits head port room new links links_after ja jc end
+  pub room-kept : AreWholeRead → (limits : RoomLimits) (port : ℕ) (new : RoomState)
+      (links listening links_after : LinksEnd) (ja jb jc : SinkEnd) (end : KeepEnd)
+      → Took ja jb (opening_record head room.elements) → Tells links listening [] []
+      → ListenOnce port links links_after end
+      → IsKeptOn limits (at_start room) 0 new listening links_after jb jc end
+      → IsKept limits head port room new links links_after ja jc end
   room-kept read limits port new links listening links_after ja jb jc end took told listens kept =
       let account = kept.account in
       let stored = room.elements in
@@ -62,6 +69,7 @@ module _ (law : AreRecovered) (head : Heading) (room : RoomState) (opening : IsO
         told = tells-twice links listening links_after [] (events_in account) [] (tries_in account) told kept.told;
         gained = gained;
         whole = λ sound. all-behind (first ∷ []) records ja jb jc whole (kept.whole sound);
-        stops = account-answer law head stored opening account (account-whole read limits (at_start room) 0 new end account kept.is) ja jc gained
+        stops = account-answer law head stored opening account
+            (account-whole read limits (at_start room) 0 new end account kept.is) ja jc gained
             (safe-behind ja jb jc first (message_bytes (messages_told account)) took kept.safe);
       }

@@ -37,35 +37,45 @@ one_whole elements whole = All-cons (All IsWholeElement) elements [] whole (All-
 none_whole : AreWholeMessages []
 none_whole = All-nil (All IsWholeElement)
 
-heard_whole : AreWholeRead → (bytes : List ℕ) (link : ℕ) (answer : Result Message MsgFault) → IsReadAs bytes answer → AreWholeMessages (messages_in (Heard link answer))
+heard_whole : AreWholeRead → (bytes : List ℕ) (link : ℕ) (answer : Result Message MsgFault) → IsReadAs bytes answer
+    → AreWholeMessages (messages_in (Heard link answer))
 heard_whole read bytes link (Ok (Init elements)) is = one_whole elements (read bytes (Init elements) is)
 heard_whole read bytes link (Ok (Update elements)) is = one_whole elements (read bytes (Update elements) is)
 heard_whole read bytes link (Ok (Presence value)) is = none_whole
 heard_whole read bytes link (Err fault) is = none_whole
 
 text_whole : AreWholeRead → (b : Bool) (link : ℕ) (bytes : List ℕ) (happening : Happening)
-    → MatchBool b ((answer : Result Message MsgFault) × IsReadAs bytes answer × (happening ≡ Heard link answer)) (happening ≡ Nothing) → AreWholeMessages (messages_in happening)
+    → MatchBool b ((answer : Result Message MsgFault) × IsReadAs bytes answer
+    × (happening ≡ Heard link answer)) (happening ≡ Nothing) → AreWholeMessages (messages_in happening)
 text_whole read true link bytes happening heard = rw heard.2 (heard_whole read bytes link heard.0 heard.1)
 text_whole read false link bytes happening heard = rw heard none_whole
 
-event_whole : AreWholeRead → (joined : List ℕ) (event : LinkEvent) (happening : Happening) → IsHeardAs joined event happening → AreWholeMessages (messages_in happening)
+event_whole : AreWholeRead → (joined : List ℕ) (event : LinkEvent) (happening : Happening)
+    → IsHeardAs joined event happening → AreWholeMessages (messages_in happening)
 event_whole read joined (Opened link) happening heard = rw heard none_whole
-event_whole read joined (Text link bytes) happening heard = text_whole read (is_among joined link) link bytes happening heard
+event_whole read joined (Text link bytes) happening heard =
+    text_whole read (is_among joined link) link bytes happening heard
 event_whole read joined (Closed link) happening heard = rw heard none_whole
 event_whole read joined Idle happening heard = rw heard none_whole
 
-rounds_whole : AreWholeRead → (limits : RoomLimits) (now : Serving) (count : ℕ) (rounds : List Round) → AreKeptRounds limits now count rounds → AreWholeMessages (messages_of rounds)
+rounds_whole : AreWholeRead → (limits : RoomLimits) (now : Serving) (count : ℕ) (rounds : List Round)
+    → AreKeptRounds limits now count rounds → AreWholeMessages (messages_of rounds)
 rounds_whole read limits now count [] are = none_whole
 rounds_whole read limits now count (round ∷ rounds) are =
-    All-append (All IsWholeElement) (messages_in round.happening) (messages_of rounds) (event_whole read now.room.joined round.event round.happening are.2.heard)
+    All-append (All IsWholeElement) (messages_in round.happening) (messages_of rounds)
+    (event_whole read now.room.joined round.event round.happening are.2.heard)
     (rounds_whole read limits (serving_after now round) (count_after count round) rounds are.3)
 
-cut_whole : AreWholeRead → (count : ℕ) (room : RoomState) (last : Last) (new : RoomState) → IsCutKept count room last new → AreWholeMessages last.messages
+cut_whole : AreWholeRead → (count : ℕ) (room : RoomState) (last : Last) (new : RoomState)
+    → IsCutKept count room last new → AreWholeMessages last.messages
 cut_whole read count room last new (inl quiet) = rw (ap (λ (l : Last). l.messages) quiet.0) none_whole
-cut_whole read count room last new (inr half) = rw half.messages (event_whole read room.joined half.event half.happening half.heard)
+cut_whole read count room last new (inr half) =
+    rw half.messages (event_whole read room.joined half.event half.happening half.heard)
 
-last_whole : AreWholeRead → (limits : RoomLimits) (now : Serving) (count : ℕ) (last : Last) (new : RoomState) (end : KeepEnd) → EndsKept limits now count last new end → AreWholeMessages last.messages
-last_whole read limits now count last new JournalFault ended = rw ended.1.messages (event_whole read now.room.joined ended.1.event ended.1.happening ended.1.heard)
+last_whole : AreWholeRead → (limits : RoomLimits) (now : Serving) (count : ℕ) (last : Last) (new : RoomState)
+    (end : KeepEnd) → EndsKept limits now count last new end → AreWholeMessages last.messages
+last_whole read limits now count last new JournalFault ended =
+    rw ended.1.messages (event_whole read now.room.joined ended.1.event ended.1.happening ended.1.heard)
 last_whole read limits now count last new Memory ended = cut_whole read count now.room last new ended.1
 last_whole read limits now count last new LinkFault ended = rw (ap (λ (l : Last). l.messages) ended.1) none_whole
 last_whole read limits now count last new LinksFull ended = rw (ap (λ (l : Last). l.messages) ended.2.1) none_whole
@@ -73,23 +83,31 @@ last_whole read limits now count last new AllClosed ended = rw (ap (λ (l : Last
 last_whole read limits now count last new IdleEnd ended = rw (ap (λ (l : Last). l.messages) ended.1) none_whole
 last_whole read limits now count last new EventsFull ended = rw (ap (λ (l : Last). l.messages) ended.1) none_whole
 
-pub account-whole : AreWholeRead → (limits : RoomLimits) (now : Serving) (count : ℕ) (new : RoomState) (end : KeepEnd) (account : Account) → IsAccount limits now count new end account
+pub account-whole : AreWholeRead → (limits : RoomLimits) (now : Serving) (count : ℕ) (new : RoomState) (end : KeepEnd)
+    (account : Account) → IsAccount limits now count new end account
     → AreWholeMessages (messages_heard account)
 account-whole read limits now count new end account is =
-    All-append (All IsWholeElement) (messages_of account.rounds) account.last.messages (rounds_whole read limits now count account.rounds is.are_rounds)
-    (last_whole read limits (serving_at now account.rounds) (count_at count account.rounds) account.last new end is.ended)
+    All-append (All IsWholeElement) (messages_of account.rounds) account.last.messages
+    (rounds_whole read limits now count account.rounds is.are_rounds)
+    (last_whole read limits (serving_at now account.rounds) (count_at count account.rounds) account.last new end
+    is.ended)
 
 -- ---- the crash theorem over lists of records
 abbrev pub AreRecovered : Type 0
-AreRecovered = (head : Heading) (stored : List ElementValue) (messages : List (List ElementValue)) (left lost : List ℕ) (answer : Result Recovered KeepFault)
-    → IsOpening head stored → AreWholeMessages messages → bytes_of (records_of head stored messages) ≡ left ++ lost → IsRecoveredAs left answer → IsAnswerAfter head stored messages left answer
+AreRecovered = (head : Heading) (stored : List ElementValue) (messages : List (List ElementValue)) (left lost : List ℕ)
+    (answer : Result Recovered KeepFault)
+    → IsOpening head stored → AreWholeMessages messages → bytes_of (records_of head stored messages) ≡ left ++ lost
+    → IsRecoveredAs left answer → IsAnswerAfter head stored messages left answer
 
-some_or_nothing : (head : Heading) (stored : List ElementValue) (answer : Result Recovered KeepFault) (whole : ℕ) → IsAnswerTo head stored [] whole answer
+some_or_nothing : (head : Heading) (stored : List ElementValue) (answer : Result Recovered KeepFault) (whole : ℕ)
+    → IsAnswerTo head stored [] whole answer
     → (answer ≡ Ok (record { head = empty_head; elements = [] })) ⊎ IsStopAnswer head stored [] [] answer
 some_or_nothing head stored answer zero is = inl is
-some_or_nothing head stored answer (suc count) is = inr (record { whole = none_whole; count = count; first = is; all = omega arith })
+some_or_nothing head stored answer (suc count) is =
+    inr (record { whole = none_whole; count = count; first = is; all = omega arith })
 
-pub unopened-answer : AreRecovered → (head : Heading) (stored : List ElementValue) → IsOpening head stored → (ja jb : SinkEnd) → HasGained (opening_record head stored ∷ []) ja jb
+pub unopened-answer : AreRecovered → (head : Heading) (stored : List ElementValue) → IsOpening head stored
+    → (ja jb : SinkEnd) → HasGained (opening_record head stored ∷ []) ja jb
     → (left : List ℕ) (answer : Result Recovered KeepFault) → IsLeft ja jb left → IsRecoveredAs left answer
     → (answer ≡ Ok (record { head = empty_head; elements = [] })) ⊎ IsStopAnswer head stored [] [] answer
 unopened-answer law head stored opening ja jb gained left answer stop is =
@@ -98,7 +116,8 @@ unopened-answer law head stored opening ja jb gained left answer stop is =
     some_or_nothing head stored answer after.whole after.is
 
 -- the messages that were told are the first ones
-pub told_first : (tries : List Try) (messages : List (List ElementValue)) → (others : List (List ElementValue)) × (messages ≡ told_last tries messages ++ others)
+pub told_first : (tries : List Try) (messages : List (List ElementValue)) → (others : List (List ElementValue))
+    × (messages ≡ told_last tries messages ++ others)
 told_first [] messages = (messages, refl)
 told_first (try ∷ tries) messages = ([], sym (append-nil messages))
 
@@ -106,22 +125,29 @@ taken_front : {X : Type 0} (xs ys : List X) → take (length xs) (xs ++ ys) ≡ 
 taken_front [] ys = refl
 taken_front (x ∷ xs) ys = ap (λ t. x ∷ t) (taken_front xs ys)
 
-records_front : (messages others : List (List ElementValue)) → take (length messages) (map update_record (messages ++ others)) ≡ map update_record messages
+records_front : (messages others : List (List ElementValue))
+    → take (length messages) (map update_record (messages ++ others)) ≡ map update_record messages
 records_front [] others = refl
 records_front (m ∷ messages) others = ap (λ t. update_record m ∷ t) (records_front messages others)
 
-records_long : (messages others : List (List ElementValue)) → length messages ≤ length (map update_record (messages ++ others))
+records_long : (messages others : List (List ElementValue))
+    → length messages ≤ length (map update_record (messages ++ others))
 records_long [] others = omega arith
 records_long (m ∷ messages) others = let long = records_long messages others in omega (arith, long)
 
-at_least : (head : Heading) (stored : List ElementValue) (messages : List (List ElementValue)) → AreWholeMessages messages → (answer : Result Recovered KeepFault)
-    (told : List (List ElementValue)) (whole : ℕ) → IsAnswerTo head stored messages whole answer → length told + 1 ≤ whole → IsStopAnswer head stored messages told answer
+at_least : (head : Heading) (stored : List ElementValue) (messages : List (List ElementValue))
+    → AreWholeMessages messages → (answer : Result Recovered KeepFault)
+    (told : List (List ElementValue)) (whole : ℕ) → IsAnswerTo head stored messages whole answer
+    → length told + 1 ≤ whole → IsStopAnswer head stored messages told answer
 at_least head stored messages sound answer told zero is least = absurd (omega (arith, least))
-at_least head stored messages sound answer told (suc count) is least = record { whole = sound; count = count; first = is; all = omega (arith, least) }
+at_least head stored messages sound answer told (suc count) is least =
+    record { whole = sound; count = count; first = is; all = omega (arith, least) }
 
-module _ (law : AreRecovered) (head : Heading) (stored : List ElementValue) (opening : IsOpening head stored) (told others messages : List (List ElementValue)) (parts : messages ≡ told ++ others)
+module _ (law : AreRecovered) (head : Heading) (stored : List ElementValue) (opening : IsOpening head stored)
+    (told others messages : List (List ElementValue)) (parts : messages ≡ told ++ others)
     (whole : AreWholeMessages messages) (ja jb : SinkEnd) (gained : HasGained (records_of head stored messages) ja jb)
-    (safe : IsSafeBy ja jb (opening_record head stored ++ message_bytes told)) (left : List ℕ) (answer : Result Recovered KeepFault) (stop : IsLeft ja jb left) (is : IsRecoveredAs left answer) where
+    (safe : IsSafeBy ja jb (opening_record head stored ++ message_bytes told)) (left : List ℕ)
+    (answer : Result Recovered KeepFault) (stop : IsLeft ja jb left) (is : IsRecoveredAs left answer) where
   front : take (length told) (map update_record messages) ≡ map update_record told
   front = ap (λ ms. take (length told) (map update_record ms)) parts ∙ records_front told others
 
@@ -142,11 +168,16 @@ module _ (law : AreRecovered) (head : Heading) (stored : List ElementValue) (ope
       let least = after.all (suc (length told)) have in
       at_least head stored messages whole answer told after.whole after.is (omega (arith, least))
 
-pub account-answer : AreRecovered → (head : Heading) (stored : List ElementValue) → IsOpening head stored → (account : Account) → AreWholeMessages (messages_heard account) → (ja jb : SinkEnd)
-    → HasGained (records_of head stored (messages_heard account)) ja jb → IsSafeBy ja jb (opening_record head stored ++ message_bytes (messages_told account))
-    → (left : List ℕ) (answer : Result Recovered KeepFault) → IsLeft ja jb left → IsRecoveredAs left answer → IsStopAnswer head stored (messages_heard account) (messages_told account) answer
+pub account-answer : AreRecovered → (head : Heading) (stored : List ElementValue) → IsOpening head stored
+    → (account : Account) → AreWholeMessages (messages_heard account) → (ja jb : SinkEnd)
+    → HasGained (records_of head stored (messages_heard account)) ja jb
+    → IsSafeBy ja jb (opening_record head stored ++ message_bytes (messages_told account))
+    → (left : List ℕ) (answer : Result Recovered KeepFault) → IsLeft ja jb left → IsRecoveredAs left answer
+    → IsStopAnswer head stored (messages_heard account) (messages_told account) answer
 account-answer law head stored opening account whole ja jb gained safe left answer stop is =
     let last = told_first account.last.tries account.last.messages in
     let parts : messages_heard account ≡ messages_told account ++ last.0 =
-    ap (λ ms. messages_of account.rounds ++ ms) last.1 ∙ sym (append_assoc (messages_of account.rounds) (told_last account.last.tries account.last.messages) last.0) in
-    kept-answer-after law head stored opening (messages_told account) last.0 (messages_heard account) parts whole ja jb gained safe left answer stop is
+    ap (λ ms. messages_of account.rounds ++ ms) last.1
+    ∙ sym (append_assoc (messages_of account.rounds) (told_last account.last.tries account.last.messages) last.0) in
+    kept-answer-after law head stored opening (messages_told account) last.0 (messages_heard account) parts whole ja jb
+    gained safe left answer stop is

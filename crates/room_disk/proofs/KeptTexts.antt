@@ -10,7 +10,8 @@ brace = 125 ∷ []
 abbrev kept_front : List ℕ
 kept_front = codes "{\"type\":\"KEPT\",\"payload\":{\"messages\":"
 
-pub kept-written : (number : ℕ) (empty opened filled closed : List ℕ) → empty ≡ [] → opened ≡ empty ++ kept_front → filled ≡ opened ++ decimal number → closed ≡ filled ++ (brace ++ brace)
+pub kept-written : (number : ℕ) (empty opened filled closed : List ℕ) → empty ≡ [] → opened ≡ empty ++ kept_front
+    → filled ≡ opened ++ decimal number → closed ≡ filled ++ (brace ++ brace)
     → closed ≡ kept_text number
 unfolding object_text quote
 kept-written number empty opened filled closed none one two three =

@@ -41,33 +41,56 @@ module _ (name one other : List ℕ) where
   apart : (front back : List Pair) → AreApart (front ++ (name, one) ∷ back) (front ++ (name, other) ∷ back)
   apart front back = record { front = front; back = back; first = refl; second = refl }
 
-  before : (b : Bool) (m : Pair) (back : List Pair) → AreApart (if b then (name, one) ∷ with_member m back else m ∷ (name, one) ∷ back) (if b then (name, other) ∷ with_member m back else m ∷ (name, other) ∷ back)
+  before : (b : Bool) (m : Pair) (back : List Pair)
+      → AreApart (if b then (name, one) ∷ with_member m back else m ∷ (name, one) ∷ back) (if b then (name, other)
+      ∷ with_member m back else m ∷ (name, other) ∷ back)
   before true m back = apart [] (with_member m back)
   before false m back = apart (m ∷ []) back
 
   behind : (b : Bool) (m f : Pair) (xs ys front back : List Pair) → AreApart xs ys
-      → AreApart (if b then f ∷ xs else m ∷ f ∷ (front ++ (name, one) ∷ back)) (if b then f ∷ ys else m ∷ f ∷ (front ++ (name, other) ∷ back))
-  behind true m f xs ys front back are = record { front = f ∷ are.front; back = are.back; first = ap (λ l. f ∷ l) are.first; second = ap (λ l. f ∷ l) are.second }
+      → AreApart (if b then f ∷ xs else m ∷ f ∷ (front ++ (name, one) ∷ back)) (if b then f ∷ ys else m ∷ f
+      ∷ (front ++ (name, other) ∷ back))
+  behind true m f xs ys front back are = record {
+    front = f ∷ are.front;
+    back = are.back;
+    first =
+        ap (λ l. f ∷ l) are.first;
+    second = ap (λ l. f ∷ l) are.second;
+  }
   behind false m f xs ys front back are = apart (m ∷ f ∷ front) back
 
-  inserted : (m : Pair) (front back : List Pair) → AreApart (with_member m (front ++ (name, one) ∷ back)) (with_member m (front ++ (name, other) ∷ back))
+  inserted : (m : Pair) (front back : List Pair)
+      → AreApart (with_member m (front ++ (name, one) ∷ back)) (with_member m (front ++ (name, other) ∷ back))
   inserted m [] back = before (bytes_less name m.0) m back
   inserted m (f ∷ front) back = behind (bytes_less f.0 m.0) m f _ _ front back (inserted m front back)
 
-  within : (b : Bool) (f : Pair) (xs ys others : List Pair) → AreApart xs ys → AreApart (if b then f ∷ xs else (name, one) ∷ f ∷ others) (if b then f ∷ ys else (name, other) ∷ f ∷ others)
-  within true f xs ys others are = record { front = f ∷ are.front; back = are.back; first = ap (λ l. f ∷ l) are.first; second = ap (λ l. f ∷ l) are.second }
+  within : (b : Bool) (f : Pair) (xs ys others : List Pair) → AreApart xs ys
+      → AreApart (if b then f ∷ xs else (name, one) ∷ f ∷ others) (if b then f ∷ ys else (name, other) ∷ f ∷ others)
+  within true f xs ys others are = record {
+    front = f ∷ are.front;
+    back = are.back;
+    first = ap (λ l. f ∷ l) are.first;
+    second = ap (λ l. f ∷ l) are.second;
+  }
   within false f xs ys others are = apart [] (f ∷ others)
 
   placed : (xs : List Pair) → AreApart (with_member (name, one) xs) (with_member (name, other) xs)
   placed [] = apart [] []
   placed (f ∷ xs) = within (bytes_less f.0 name) f _ _ xs (placed xs)
 
-  sorted : (front back : List Pair) → AreApart (sorted_members (front ++ (name, one) ∷ back)) (sorted_members (front ++ (name, other) ∷ back))
+  sorted : (front back : List Pair) → AreApart (sorted_members (front ++ (name, one) ∷ back))
+      (sorted_members (front ++ (name, other) ∷ back))
   sorted [] back = placed (sorted_members back)
   sorted (f ∷ front) back =
       let others = sorted front back in
       let all = inserted f others.front others.back in
-      record { front = all.front; back = all.back; first = ap (with_member f) others.first ∙ all.first; second = ap (with_member f) others.second ∙ all.second }
+      record {
+        front = all.front;
+        back = all.back;
+        first = ap (with_member f) others.first
+            ∙ all.first;
+        second = ap (with_member f) others.second ∙ all.second;
+      }
 
 -- ---- their texts
 texts_before : List Pair → List ℕ
@@ -78,17 +101,21 @@ texts_behind : List Pair → List ℕ
 texts_behind [] = []
 texts_behind (m ∷ ms) = 44 ∷ join_with_byte 44 (map member_text (m ∷ ms))
 
-joined : (front : List Pair) (m : Pair) (back : List Pair) → join_with_byte 44 (map member_text (front ++ m ∷ back)) ≡ texts_before front ++ (member_text m ++ texts_behind back)
+joined : (front : List Pair) (m : Pair) (back : List Pair) → join_with_byte 44 (map member_text (front ++ m ∷ back))
+    ≡ texts_before front ++ (member_text m ++ texts_behind back)
 unfolding texts_before texts_behind
 joined [] m [] = sym (append-nil (member_text m))
 joined [] m (b ∷ back) = refl
-joined (f ∷ []) m back = ap (λ t. member_text f ++ 44 ∷ t) (joined [] m back) ∙ sym (append_assoc (member_text f) (44 ∷ []) (member_text m ++ texts_behind back))
-joined (f ∷ g ∷ front) m back = ap (λ t. member_text f ++ 44 ∷ t) (joined (g ∷ front) m back) ∙ sym (append_assoc (member_text f) (44 ∷ texts_before (g ∷ front)) (member_text m ++ texts_behind back))
+joined (f ∷ []) m back = ap (λ t. member_text f ++ 44 ∷ t) (joined [] m back)
+    ∙ sym (append_assoc (member_text f) (44 ∷ []) (member_text m ++ texts_behind back))
+joined (f ∷ g ∷ front) m back = ap (λ t. member_text f ++ 44 ∷ t) (joined (g ∷ front) m back)
+    ∙ sym (append_assoc (member_text f) (44 ∷ texts_before (g ∷ front)) (member_text m ++ texts_behind back))
 
 abbrev text_front : List Pair → List ℕ → List ℕ
 text_front front name = 123 ∷ (texts_before front ++ (quote name ++ 58 ∷ []))
 
-text_parts : (front : List Pair) (name value : List ℕ) (back : List Pair) → object_text (front ++ (name, value) ∷ back) ≡ text_front front name ++ (value ++ (texts_behind back ++ 125 ∷ []))
+text_parts : (front : List Pair) (name value : List ℕ) (back : List Pair)
+    → object_text (front ++ (name, value) ∷ back) ≡ text_front front name ++ (value ++ (texts_behind back ++ 125 ∷ []))
 unfolding object_text
 text_parts front name value back =
     let t = texts_before front in
@@ -97,7 +124,8 @@ text_parts front name value back =
     ap (λ j. 123 ∷ (j ++ 125 ∷ [])) (joined front (name, value) back)
     ∙ ap (λ j. 123 ∷ j) (
     append_assoc t ((q ++ 58 ∷ value) ++ v) (125 ∷ [])
-    ∙ ap (λ j. t ++ j) (append_assoc (q ++ 58 ∷ value) v (125 ∷ []) ∙ append_assoc q (58 ∷ value) (v ++ 125 ∷ []) ∙ sym (append_assoc q (58 ∷ []) (value ++ (v ++ 125 ∷ []))))
+    ∙ ap (λ j. t ++ j) (append_assoc (q ++ 58 ∷ value) v (125 ∷ []) ∙ append_assoc q (58 ∷ value) (v ++ 125 ∷ [])
+    ∙ sym (append_assoc q (58 ∷ []) (value ++ (v ++ 125 ∷ []))))
     ∙ sym (append_assoc t (q ++ 58 ∷ []) (value ++ (v ++ 125 ∷ [])))
     )
 
@@ -120,7 +148,8 @@ own_same e key (Other name) = refl
 abbrev front_members : ElementValue → List Pair
 front_members e =
     (codes "id", quote e.id) ∷ (codes "type", quote (kind_name e.kind))
-    ∷ (codes "version", decimal e.version) ∷ (codes "versionNonce", decimal e.nonce) ∷ (codes "updated", decimal e.updated)
+    ∷ (codes "version", decimal e.version) ∷ (codes "versionNonce", decimal e.nonce)
+    ∷ (codes "updated", decimal e.updated)
     ∷ (codes "isDeleted", truth_text e.deleted) ∷ []
 
 abbrev back_members : ElementValue → List Pair → List Pair
@@ -129,21 +158,30 @@ back_members e own =
     ∷ (codes "boundElements", array_text (map bound_text e.bound)) ∷ (own ++ pairs e.rest)
 
 members_keyed : (e : ElementValue) (key : List ℕ)
-    → header_members (with_index e key) ++ pairs e.rest ≡ front_members e ++ (codes "index", quote key) ∷ back_members e (own_members e e.kind)
-members_keyed e key = ap (λ own. front_members e ++ (codes "index", quote key) ∷ back_members e own) (own_same e key e.kind)
+    → header_members (with_index e key) ++ pairs e.rest ≡ front_members e ++ (codes "index", quote key)
+    ∷ back_members e (own_members e e.kind)
+members_keyed e key =
+    ap (λ own. front_members e ++ (codes "index", quote key) ∷ back_members e own) (own_same e key e.kind)
 
-members_bare : (e : ElementValue) → e.index ≡ None → header_members e ++ pairs e.rest ≡ front_members e ++ (codes "index", null_word) ∷ back_members e (own_members e e.kind)
-members_bare e none = ap (λ index. front_members e ++ (codes "index", text_or_null index) ∷ back_members e (own_members e e.kind)) none
+members_bare : (e : ElementValue) → e.index ≡ None → header_members e ++ pairs e.rest ≡ front_members e
+    ++ (codes "index", null_word) ∷ back_members e (own_members e e.kind)
+members_bare e none =
+    ap (λ index. front_members e ++ (codes "index", text_or_null index) ∷ back_members e (own_members e e.kind)) none
 
 text_is_less : (e : ElementValue) (key : List ℕ) → e.index ≡ None → text_less (with_index e key) e ≡ true
 unfolding text_less element_members
 text_is_less e key none =
     let are = sorted (codes "index") (quote key) null_word (front_members e) (back_members e (own_members e e.kind)) in
-    let keyed : element_text (with_index e key) ≡ text_front are.front (codes "index") ++ (quote key ++ (texts_behind are.back ++ 125 ∷ [])) =
-    ap (λ ms. object_text (sorted_members ms)) (members_keyed e key) ∙ ap object_text are.first ∙ text_parts are.front (codes "index") (quote key) are.back in
-    let bare : element_text e ≡ text_front are.front (codes "index") ++ (null_word ++ (texts_behind are.back ++ 125 ∷ [])) =
-    ap (λ ms. object_text (sorted_members ms)) (members_bare e none) ∙ ap object_text are.second ∙ text_parts are.front (codes "index") null_word are.back in
-    ap₂ bytes_less keyed bare ∙ less_front (text_front are.front (codes "index")) _ _ (key_less key (texts_behind are.back ++ 125 ∷ []))
+    let keyed : element_text (with_index e key) ≡ text_front are.front (codes "index")
+    ++ (quote key ++ (texts_behind are.back ++ 125 ∷ [])) =
+    ap (λ ms. object_text (sorted_members ms)) (members_keyed e key) ∙ ap object_text are.first
+    ∙ text_parts are.front (codes "index") (quote key) are.back in
+    let bare : element_text e ≡ text_front are.front (codes "index")
+    ++ (null_word ++ (texts_behind are.back ++ 125 ∷ [])) =
+    ap (λ ms. object_text (sorted_members ms)) (members_bare e none) ∙ ap object_text are.second
+    ∙ text_parts are.front (codes "index") null_word are.back in
+    ap₂ bytes_less keyed bare ∙ less_front (text_front are.front (codes "index")) _ _
+    (key_less key (texts_behind are.back ++ 125 ∷ []))
 
 by_text : (version nonce : ℕ) (less : Bool) → less ≡ true
     → nat_lt version version || (version == version && (nat_lt nonce nonce || (nonce == nonce && less))) ≡ true

@@ -25,18 +25,23 @@ all messages = flat_map (λ (es : List ElementValue). es) messages
 
 -- ---- the texts of the records
 abbrev texts : Heading → List ElementValue → List (List ElementValue) → List (List ℕ)
-texts head stored messages = state_text head stored ∷ map (λ (es : List ElementValue). message_text (Update es)) messages
+texts head stored messages =
+    state_text head stored ∷ map (λ (es : List ElementValue). message_text (Update es)) messages
 
-ended : (messages : List (List ElementValue)) → map record_of (map (λ (es : List ElementValue). message_text (Update es)) messages) ≡ map update_record messages
+ended : (messages : List (List ElementValue))
+    → map record_of (map (λ (es : List ElementValue). message_text (Update es)) messages) ≡ map update_record messages
 ended [] = refl
 ended (m ∷ messages) = ap (λ rs. update_record m ∷ rs) (ended messages)
 
-taken-map : (n : ℕ) (messages : List (List ElementValue)) → take n (map (λ (es : List ElementValue). message_text (Update es)) messages) ≡ map (λ (es : List ElementValue). message_text (Update es)) (take n messages)
+taken-map : (n : ℕ) (messages : List (List ElementValue))
+    → take n (map (λ (es : List ElementValue). message_text (Update es)) messages)
+    ≡ map (λ (es : List ElementValue). message_text (Update es)) (take n messages)
 taken-map zero messages = refl
 taken-map (suc n) [] = refl
 taken-map (suc n) (m ∷ messages) = ap (λ ts. message_text (Update m) ∷ ts) (taken-map n messages)
 
-map-length : (messages : List (List ElementValue)) → length (map (λ (es : List ElementValue). message_text (Update es)) messages) ≡ length messages
+map-length : (messages : List (List ElementValue))
+    → length (map (λ (es : List ElementValue). message_text (Update es)) messages) ≡ length messages
 map-length [] = refl
 map-length (m ∷ messages) = let more = map-length messages in omega (arith, more)
 
@@ -44,26 +49,40 @@ records-length : (messages : List (List ElementValue)) → length (map update_re
 records-length [] = refl
 records-length (m ∷ messages) = let more = records-length messages in omega (arith, more)
 
-all-none : (messages : List (List ElementValue)) → All (All IsWholeElement) messages → AllByRecursion NoFeed (map (λ (es : List ElementValue). message_text (Update es)) messages)
+all-none : (messages : List (List ElementValue)) → All (All IsWholeElement) messages
+    → AllByRecursion NoFeed (map (λ (es : List ElementValue). message_text (Update es)) messages)
 all-none [] whole = tt
-all-none (m ∷ messages) whole = (update-none m (All-head (All IsWholeElement) m messages whole), all-none messages (All-tail (All IsWholeElement) m messages whole))
+all-none (m ∷ messages) whole = (
+  update-none m (All-head (All IsWholeElement) m messages whole),
+  all-none messages (All-tail (All IsWholeElement) m messages whole),
+)
 
 -- ---- what is stored
 abbrev pub DoJoin : Type 0
-DoJoin = (updates others elements news all : List ElementValue) → AreStored updates elements → AreStored others news → AreStored (elements ++ news) all → AreStored (updates ++ others) all
+DoJoin = (updates others elements news all : List ElementValue) → AreStored updates elements → AreStored others news
+    → AreStored (elements ++ news) all → AreStored (updates ++ others) all
 
-stored-of : DoJoin → (stored more : List ElementValue) → AreStored stored stored → (elements : List ElementValue) × AreStored (stored ++ more) elements × ((updates : List ElementValue) → AreStored updates stored → AreStored (updates ++ more) elements)
+stored-of : DoJoin → (stored more : List ElementValue) → AreStored stored stored → (elements : List ElementValue)
+    × AreStored (stored ++ more) elements × ((updates : List ElementValue) → AreStored updates stored
+    → AreStored (updates ++ more) elements)
 stored-of join stored more itself =
     let news = stored-exist more in
-    let both = stored-exist (stored ++ news.0) in
-    (both.0, join stored more stored news.0 both.0 itself news.1 both.1, λ updates are. join updates more stored news.0 both.0 are news.1 both.1)
+    let both = stored-exist (stored ++ news.0) in (
+      both.0,
+      join stored more stored news.0 both.0 itself news.1 both.1,
+      λ updates are. join updates more stored news.0 both.0 are news.1 both.1,
+    )
 
 -- ---- the answer
-nothing : (lines : List (List ℕ)) (answer : Result Recovered KeepFault) → lines ≡ [] → AreReadAs lines answer → answer ≡ Ok (record { head = empty_head; elements = [] })
-nothing lines answer none is = kept-answer lines empty_head [] answer (subst (λ ls. AreKept ls empty_head []) (sym none) (refl, refl)) is
+nothing : (lines : List (List ℕ)) (answer : Result Recovered KeepFault) → lines ≡ [] → AreReadAs lines answer
+    → answer ≡ Ok (record { head = empty_head; elements = [] })
+nothing lines answer none is =
+    kept-answer lines empty_head [] answer (subst (λ ls. AreKept ls empty_head []) (sym none) (refl, refl)) is
 
-some : DoJoin → AreReadBack → (head : Heading) (stored : List ElementValue) (messages : List (List ElementValue)) → IsOpening head stored → All (All IsWholeElement) messages
-    → (n : ℕ) → n ≤ length messages → (lines : List (List ℕ)) (answer : Result Recovered KeepFault) → lines ≡ opening_record head stored ∷ map update_record (take n messages) → AreReadAs lines answer
+some : DoJoin → AreReadBack → (head : Heading) (stored : List ElementValue) (messages : List (List ElementValue))
+    → IsOpening head stored → All (All IsWholeElement) messages
+    → (n : ℕ) → n ≤ length messages → (lines : List (List ℕ)) (answer : Result Recovered KeepFault)
+    → lines ≡ opening_record head stored ∷ map update_record (take n messages) → AreReadAs lines answer
     → HasFirst head stored messages n answer
 some join back head stored messages opening whole n within lines answer are is =
     let found = stored-of join stored (all (take n messages)) (AreStored-itself stored opening.ordered) in
@@ -81,9 +100,12 @@ some join back head stored messages opening whole n within lines answer are is =
       })) is;
     }
 
-pub stopped : DoJoin → AreReadBack → (head : Heading) (stored : List ElementValue) (messages : List (List ElementValue)) (left lost : List ℕ) (answer : Result Recovered KeepFault) → IsOpening head stored
-    → All (All IsWholeElement) messages → bytes_of (records_of head stored messages) ≡ left ++ lost → IsRecoveredAs left answer → IsAnswerAfter head stored messages left answer
-stopped join back head stored messages left lost answer opening whole e is = by-count (cut (texts head stored messages) left lost none (ap bytes_of same ∙ e))
+pub stopped : DoJoin → AreReadBack → (head : Heading) (stored : List ElementValue) (messages : List (List ElementValue))
+    (left lost : List ℕ) (answer : Result Recovered KeepFault) → IsOpening head stored
+    → All (All IsWholeElement) messages → bytes_of (records_of head stored messages) ≡ left ++ lost
+    → IsRecoveredAs left answer → IsAnswerAfter head stored messages left answer
+stopped join back head stored messages left lost answer opening whole e is =
+    by-count (cut (texts head stored messages) left lost none (ap bytes_of same ∙ e))
   where
     none : AllByRecursion NoFeed (texts head stored messages)
     none = (state-none head stored opening.whole opening.elements, all-none messages whole)
@@ -92,18 +114,22 @@ stopped join back head stored messages left lost answer opening whole e is = by-
     same = ap (λ rs. opening_record head stored ∷ rs) (ended messages)
 
     record-count : length (texts head stored messages) ≡ length (records_of head stored messages)
-    record-count = let first = map-length messages in let second = records-length messages in omega (arith, first, second)
+    record-count =
+        let first = map-length messages in let second = records-length messages in omega (arith, first, second)
 
-    answer-of : (n : ℕ) → n ≤ length (texts head stored messages) → lines_of left ≡ map record_of (take n (texts head stored messages)) → IsAnswerTo head stored messages n answer
+    answer-of : (n : ℕ) → n ≤ length (texts head stored messages)
+        → lines_of left ≡ map record_of (take n (texts head stored messages)) → IsAnswerTo head stored messages n answer
     answer-of zero within lines = nothing (lines_of left) answer lines is
     answer-of (suc n) within lines =
         let few : n ≤ length messages = (let long = map-length messages in omega (arith, within, long)) in
         some join back head stored messages opening whole n few (lines_of left) answer
-        (lines ∙ ap (λ rs. opening_record head stored ∷ rs) (ap (map record_of) (taken-map n messages) ∙ ended (take n messages))) is
+        (lines ∙ ap (λ rs. opening_record head stored ∷ rs) (ap (map record_of) (taken-map n messages)
+        ∙ ended (take n messages))) is
 
     by-count : IsCut (texts head stored messages) left → IsAnswerAfter head stored messages left answer
     by-count c = record {
       whole = c.count;
       is = answer-of c.count c.within c.lines;
-      all = λ count has. c.all count (omega (arith, has.within, record-count)) (subst (λ rs. length (bytes_of (take count rs)) ≤ length left) (sym same) has.long);
+      all = λ count has. c.all count (omega (arith, has.within, record-count))
+          (subst (λ rs. length (bytes_of (take count rs)) ≤ length left) (sym same) has.long);
     }

@@ -16,7 +16,8 @@ use Rattle.room_disk.specs.declared.recovery.Recovery.{Recovery}
 use Rattle.room_disk.proofs.KeptLines.{kept-more, faulty-line, faulty-more, scene-fault, update-fault}
 
 -- ---- reading it
-pub read-first : (lines : List (List ℕ)) (line : List ℕ) (head : Heading) (elements : List ElementValue) (count : ℕ) → count ≡ length lines → count ≡ 0 → AreKept (line ∷ []) head elements
+pub read-first : (lines : List (List ℕ)) (line : List ℕ) (head : Heading) (elements : List ElementValue) (count : ℕ)
+    → count ≡ length lines → count ≡ 0 → AreKept (line ∷ []) head elements
     → AreKept (lines ++ line ∷ []) head elements
 read-first lines line head elements count long zero kept =
     let none : lines ≡ [] = nil_from_length lines (omega (arith, long, zero)) in
@@ -25,18 +26,24 @@ read-first lines line head elements count long zero kept =
 some-lines : (lines : List (List ℕ)) (count : ℕ) → count ≡ length lines → (count ≡ 0 → ⊥) → lines ≡ [] → ⊥
 some-lines lines count long some none = some (long ∙ ap length none)
 
-pub read-further : (lines : List (List ℕ)) (line : List ℕ) (head : Heading) (old new : List ElementValue) (count : ℕ) → count ≡ length lines → (count ≡ 0 → ⊥) → AreKept lines head old
+pub read-further : (lines : List (List ℕ)) (line : List ℕ) (head : Heading) (old new : List ElementValue) (count : ℕ)
+    → count ≡ length lines → (count ≡ 0 → ⊥) → AreKept lines head old
     → HasTakenLine old line new → AreKept (lines ++ line ∷ []) head new
-read-further lines line head old new count long some kept taken = kept-more lines line head old new (some-lines lines count long some) kept taken
+read-further lines line head old new count long some kept taken =
+    kept-more lines line head old new (some-lines lines count long some) kept taken
 
-pub fault-first : (lines : List (List ℕ)) (line : List ℕ) (fault : LineFault) (count : ℕ) → count ≡ length lines → count ≡ 0 → IsSceneLineFault line fault → IsLineFault lines line fault
-fault-first lines line fault count long zero is = scene-fault lines line fault (nil_from_length lines (omega (arith, long, zero))) is
+pub fault-first : (lines : List (List ℕ)) (line : List ℕ) (fault : LineFault) (count : ℕ) → count ≡ length lines
+    → count ≡ 0 → IsSceneLineFault line fault → IsLineFault lines line fault
+fault-first lines line fault count long zero is =
+    scene-fault lines line fault (nil_from_length lines (omega (arith, long, zero))) is
 
-pub fault-further : (lines : List (List ℕ)) (line : List ℕ) (fault : LineFault) (count : ℕ) → count ≡ length lines → (count ≡ 0 → ⊥) → IsUpdateLineFault line fault → IsLineFault lines line fault
+pub fault-further : (lines : List (List ℕ)) (line : List ℕ) (fault : LineFault) (count : ℕ) → count ≡ length lines
+    → (count ≡ 0 → ⊥) → IsUpdateLineFault line fault → IsLineFault lines line fault
 fault-further lines line fault count long some is = update-fault lines line fault (some-lines lines count long some) is
 
 -- the fault of a value that stands alone is that of the line
-pub fault-alone : (line text : List ℕ) (fault : SceneFault) → StandsAlone line text → IsSceneFault text fault → IsSceneReadAs line (Err fault)
+pub fault-alone : (line text : List ℕ) (fault : SceneFault) → StandsAlone line text → IsSceneFault text fault
+    → IsSceneReadAs line (Err fault)
 fault-alone line text (Json found) stands is = absurd is
 fault-alone line text NotObject stands is = (text, stands, is)
 fault-alone line text NotScene stands is = (text, stands, is)
@@ -46,15 +53,18 @@ fault-alone line text Files stands is = (text, stands, is)
 fault-alone line text (Element place why) stands is = (text, stands, is)
 
 -- ---- taking it
-pub take-kept : (lines : List (List ℕ)) (line : List ℕ) (old new : Recovery) → old.fault ≡ None → new.fault ≡ None → new.lines ≡ old.lines + 1
-    → ((ls : List (List ℕ)) → old.lines ≡ length ls → AreKept ls old.head old.store.elements → AreKept (ls ++ line ∷ []) new.head new.store.elements)
+pub take-kept : (lines : List (List ℕ)) (line : List ℕ) (old new : Recovery) → old.fault ≡ None → new.fault ≡ None
+    → new.lines ≡ old.lines + 1
+    → ((ls : List (List ℕ)) → old.lines ≡ length ls → AreKept ls old.head old.store.elements
+    → AreKept (ls ++ line ∷ []) new.head new.store.elements)
     → IsReadTo lines old → IsReadTo (lines ++ line ∷ []) new
 take-kept lines line old new was is count read to =
     let kept = subst (IsReadBy lines old.head old.store.elements old.lines) was to in
     subst (IsReadBy (lines ++ line ∷ []) new.head new.store.elements new.lines) (sym is)
     (read lines kept.1 kept.0, omega (arith, count, kept.1, length-append lines (line ∷ [])))
 
-pub take-faulty : (lines : List (List ℕ)) (line : List ℕ) (old new : Recovery) (number : ℕ) (fault : LineFault) → old.fault ≡ None → new.fault ≡ Some (Line number fault) → number ≡ old.lines + 1
+pub take-faulty : (lines : List (List ℕ)) (line : List ℕ) (old new : Recovery) (number : ℕ) (fault : LineFault)
+    → old.fault ≡ None → new.fault ≡ Some (Line number fault) → number ≡ old.lines + 1
     → ((ls : List (List ℕ)) → old.lines ≡ length ls → IsLineFault ls line fault)
     → IsReadTo lines old → IsReadTo (lines ++ line ∷ []) new
 take-faulty lines line old new number fault was is count faulty to =
@@ -63,7 +73,8 @@ take-faulty lines line old new number fault was is count faulty to =
     subst (IsReadBy (lines ++ line ∷ []) new.head new.store.elements new.lines) (sym is)
     (faulty-line lines line old.head old.store.elements number fault kept.0 next (faulty lines kept.1))
 
-pub take-more : (lines : List (List ℕ)) (line : List ℕ) (old new : Recovery) (fault : Option KeepFault) → is_some fault ≡ true → old.fault ≡ fault → new.fault ≡ fault → IsReadTo lines old
+pub take-more : (lines : List (List ℕ)) (line : List ℕ) (old new : Recovery) (fault : Option KeepFault)
+    → is_some fault ≡ true → old.fault ≡ fault → new.fault ≡ fault → IsReadTo lines old
     → IsReadTo (lines ++ line ∷ []) new
 take-more lines line old new None some was is to = cc
 take-more lines line old new (Some fault) some was is to =

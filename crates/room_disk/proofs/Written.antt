@@ -25,12 +25,16 @@ use Rattle.room_disk.specs.Recovering.{IsSceneReadAs, AreUpdates}
 use Rattle.intake.proofs.CallerLemmas.{NoFeed, quote-none, compact-none, array-none, object-none}
 
 -- ---- no line feed
-pub elements-none : (elements : List ElementValue) → All IsWholeElement elements → AllByRecursion NoFeed (map element_text elements)
+pub elements-none : (elements : List ElementValue) → All IsWholeElement elements
+    → AllByRecursion NoFeed (map element_text elements)
 elements-none [] whole = tt
-elements-none (e ∷ elements) whole =
-    (compact-none 120 (element_text e) (All-head IsWholeElement e elements whole).shallow, elements-none elements (All-tail IsWholeElement e elements whole))
+elements-none (e ∷ elements) whole = (
+  compact-none 120 (element_text e) (All-head IsWholeElement e elements whole).shallow,
+  elements-none elements (All-tail IsWholeElement e elements whole),
+)
 
-values-none : (ms : List Pair) → AllByRecursion (λ (m : Pair). IsCompact 126 m.1) ms → AllByRecursion (λ (m : Pair). NoFeed m.1) ms
+values-none : (ms : List Pair) → AllByRecursion (λ (m : Pair). IsCompact 126 m.1) ms
+    → AllByRecursion (λ (m : Pair). NoFeed m.1) ms
 values-none [] are = tt
 values-none (m ∷ ms) are = (compact-none 126 m.1 are.0, values-none ms are.1)
 
@@ -38,7 +42,8 @@ source-none : (source : Option (List ℕ)) → NoFeed (text_or_null source)
 source-none None = refl
 source-none (Some text) = quote-none text
 
-pub state-none : (head : Heading) (stored : List ElementValue) → IsWholeHead head → All IsWholeElement stored → NoFeed (state_text head stored)
+pub state-none : (head : Heading) (stored : List ElementValue) → IsWholeHead head → All IsWholeElement stored
+    → NoFeed (state_text head stored)
 unfolding state_text
 state-none head stored whole each =
     object-none (scene_members head stored head.files) (
@@ -49,7 +54,10 @@ state-none head stored whole each =
           source-none head.source,
           (
             array-none (map element_text stored) (elements-none stored each),
-            (object-none (pairs head.app_state) (values-none (pairs head.app_state) whole.settings.valued), (object-none head.files (values-none head.files whole.files.valued), tt)),
+            (
+              object-none (pairs head.app_state) (values-none (pairs head.app_state) whole.settings.valued),
+              (object-none head.files (values-none head.files whole.files.valued), tt),
+            ),
           ),
         ),
       ),
@@ -59,8 +67,16 @@ pub update-none : (elements : List ElementValue) → All IsWholeElement elements
 unfolding message_text
 update-none elements each =
     let inner : List Pair = (codes "elements", array_text (map element_text elements)) ∷ [] in
-    object-none (tagged_members update_tag elements)
-    (quote-none update_tag, (object-none inner (array-none (map element_text elements) (elements-none elements each), tt), tt))
+    object-none (tagged_members update_tag elements) (
+      quote-none update_tag,
+      (
+        object-none inner (
+          array-none (map element_text elements) (elements-none elements each),
+          tt,
+        ),
+        tt,
+      ),
+    )
 
 -- ---- read with the line feed behind
 follows : (value rest : List ℕ) → Follows value rest → Follows value (rest ++ 10 ∷ [])
@@ -75,7 +91,8 @@ alone-feed bytes text alone =
       stands = record {
         blank = s.blank;
         value = s.value;
-        parts = ap (λ b. b ++ 10 ∷ []) s.parts ∙ (append_assoc s.blank (s.value ++ alone.rest) (10 ∷ []) ∙ ap (λ b. s.blank ++ b) (append_assoc s.value alone.rest (10 ∷ [])));
+        parts = ap (λ b. b ++ 10 ∷ []) s.parts ∙ (append_assoc s.blank (s.value ++ alone.rest) (10 ∷ [])
+            ∙ ap (λ b. s.blank ++ b) (append_assoc s.value alone.rest (10 ∷ [])));
         space = s.space;
         reads = s.reads;
         ends = follows s.value alone.rest s.ends;
@@ -83,7 +100,8 @@ alone-feed bytes text alone =
       space = list_all-append is_space alone.rest (10 ∷ []) ∙ and_from (is_blank alone.rest) true alone.space refl;
     }
 
-pub opening-read : (head : Heading) (stored : List ElementValue) → IsWholeHead head → All IsWholeElement stored → HaveKeys stored
+pub opening-read : (head : Heading) (stored : List ElementValue) → IsWholeHead head → All IsWholeElement stored
+    → HaveKeys stored
     → IsSceneReadAs (opening_record head stored) (Ok (record { head = head; elements = stored }))
 opening-read head stored whole each keys =
     let at = state-back head stored (10 ∷ []) whole each keys in
@@ -92,10 +110,15 @@ opening-read head stored whole each keys =
 abbrev pub AreReadBack : Type 0
 AreReadBack = (message : Message) → IsWholeMessage message → IsReadAs (message_text message) (Ok message)
 
-pub update-read : AreReadBack → (elements : List ElementValue) → All IsWholeElement elements → IsReadAs (update_record elements) (Ok (Update elements))
-update-read back elements each = let is = back (Update elements) each in (is.0, alone-feed (message_text (Update elements)) is.0 is.1, is.2)
+pub update-read : AreReadBack → (elements : List ElementValue) → All IsWholeElement elements
+    → IsReadAs (update_record elements) (Ok (Update elements))
+update-read back elements each =
+    let is = back (Update elements) each in (is.0, alone-feed (message_text (Update elements)) is.0 is.1, is.2)
 
-pub updates-read : AreReadBack → (messages : List (List ElementValue)) → All (All IsWholeElement) messages → AreUpdates (map update_record messages) messages
+pub updates-read : AreReadBack → (messages : List (List ElementValue)) → All (All IsWholeElement) messages
+    → AreUpdates (map update_record messages) messages
 updates-read back [] each = tt
-updates-read back (elements ∷ messages) each =
-    (update-read back elements (All-head (All IsWholeElement) elements messages each), updates-read back messages (All-tail (All IsWholeElement) elements messages each))
+updates-read back (elements ∷ messages) each = (
+  update-read back elements (All-head (All IsWholeElement) elements messages each),
+  updates-read back messages (All-tail (All IsWholeElement) elements messages each),
+)

@@ -21,20 +21,23 @@ pub record IsResumedFrom (found : Recovered) (run : Run) : Type 0 where
 -- This was recovered of what a stop left of the run.
 abbrev pub IsFoundOf : Run → Recovered → Type 0
 IsFoundOf run found =
-    IsStopAnswer run.head run.stored (messages_heard run.account) (messages_told run.account) (Ok found)
+    IsStopAnswer run.head run.stored (messages_heard run.account) (messages_told run.account)
+    (Ok found)
 
--- Each run was resumed from what was recovered of the one before it, the first one from this; and that was recovered of
--- the last one.
+-- Each run was resumed from what was recovered of the one before it, the first one from this; and
+-- that was recovered of the last one.
 abbrev pub AreChained : Recovered → List Run → Recovered → Type 0
 AreChained first [] last = last ≡ first
 AreChained first (run ∷ runs) last =
-    IsResumedFrom first run × ((found : Recovered) × IsFoundOf run found × AreChained found runs last)
+    IsResumedFrom first run × ((found : Recovered) × IsFoundOf run found
+    × AreChained found runs last)
 
 -- the updates of which a text was tried in a run
 abbrev pub told_in : Run → List ElementValue
 told_in run = flat_map (λ (elements : List ElementValue). elements) (messages_told run.account)
 
--- all updates that were kept: what the first run was resumed from, and the updates that were told in any of them
+-- all updates that were kept: what the first run was resumed from, and the updates that were told
+-- in any of them
 abbrev pub kept_in : Recovered → List Run → List ElementValue
 kept_in first runs = first.elements ++ flat_map told_in runs
 

@@ -18,8 +18,8 @@ opening_record head stored = record_of (state_text head stored)
 abbrev pub update_record : List ElementValue → List ℕ
 update_record elements = record_of (message_text (Update elements))
 
--- The records of a run: what was stored when it began, and then each message, in order, of which the elements are
--- given.
+-- The records of a run: what was stored when it began, and then each message, in order, of which
+-- the elements are given.
 abbrev pub records_of : Heading → List ElementValue → List (List ElementValue) → List (List ℕ)
 records_of head stored messages = opening_record head stored ∷ map update_record messages
 

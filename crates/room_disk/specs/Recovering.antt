@@ -18,8 +18,8 @@ use Rattle.room_disk.specs.declared.fault.KeepFault.TheVariants.{Line}
 use Rattle.room_disk.specs.declared.fault.LineFault.{LineFault}
 use Rattle.room_disk.specs.declared.fault.LineFault.TheVariants.{Scene as SceneLine, Message as MessageLine, Other}
 
--- What a line is read as that is to be one scene: the scene, or its first fault. A byte behind the value that isn't
--- white space comes before all faults of the value itself.
+-- What a line is read as that is to be one scene: the scene, or its first fault. A byte behind the
+-- value that isn't white space comes before all faults of the value itself.
 abbrev pub IsSceneReadAs : List ℕ → Result Scene SceneFault → Type 0
 IsSceneReadAs line (Ok scene) = (text : List ℕ) × StandsAlone line text × IsSceneOf text scene
 IsSceneReadAs line (Err (Json fault)) =
@@ -38,8 +38,8 @@ AreUpdates (line ∷ lines) (elements ∷ messages) =
 abbrev pub empty_head : Heading
 empty_head = record { source = None; app_state = []; files = [] }
 
--- The first line is this scene, the others are updates with these elements, and what is stored of the scene's elements
--- and then those of the updates, in order, is this.
+-- The first line is this scene, the others are updates with these elements, and what is stored of
+-- the scene's elements and then those of the updates, in order, is this.
 pub record AreOpened (first : List ℕ) (others : List (List ℕ)) (head : Heading)
     (elements : List ElementValue) : Type 0 where
   pub scene : Scene
@@ -49,7 +49,8 @@ pub record AreOpened (first : List ℕ) (others : List (List ℕ)) (head : Headi
   pub updates : AreUpdates others messages
   pub stored : AreStored (scene.elements ++ flat_map (λ es. es) messages) elements
 
--- The lines are faultless, and this is their head and what they store; nothing where there is no line.
+-- The lines are faultless, and this is their head and what they store; nothing where there is no
+-- line.
 abbrev pub AreKept : List (List ℕ) → Heading → List ElementValue → Type 0
 AreKept [] head elements = (head ≡ empty_head) × (elements ≡ [])
 AreKept (first ∷ others) head elements = AreOpened first others head elements

@@ -16,7 +16,8 @@ abbrev pub greatest_key : Option (List ℕ) → List ElementValue → Option (Li
 greatest_key low [] = low
 greatest_key low (e ∷ elements) = greatest_key (greater_key low e.index) elements
 
--- the element whose key this is, where it has none with the key above the last one; and the last one then
+-- the element whose key this is, where it has none with the key above the last one; and the last
+-- one then
 abbrev pub with_key_above : Option (List ℕ) → Option (List ℕ) → ElementValue → ElementValue
 with_key_above (Some key) last e = e
 with_key_above None last e = with_index e (key_between last None)
@@ -31,7 +32,8 @@ filled_above last [] = []
 filled_above last (e ∷ elements) =
     with_key_above e.index last e ∷ filled_above (last_behind e.index last) elements
 
--- The stored elements, in the order of the ids, where each without a key gets one above the greatest of all.
+-- The stored elements, in the order of the ids, where each without a key gets one above the
+-- greatest of all.
 abbrev pub resumed : List ElementValue → List ElementValue
 resumed elements = filled_above (greatest_key None elements) elements
 

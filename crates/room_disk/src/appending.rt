@@ -9,10 +9,12 @@ ghost use Rattle.room_disk.specs.Records.{record_of};
 use board_base::Bytes;
 use board_ends::{Failed, Journal, write_all};
 
-/// Appends the record of this text, and makes all bytes of the journal safe. `Failed` comes only where
-/// the journal's count of faults rose; a first part of the record is out then. It takes no memory.
+/// Appends the record of this text, and makes all bytes of the journal safe. `Failed` comes only
+/// where the journal's count of faults rose; a first part of the record is out then. It takes no
+/// memory.
 pub(crate) fn append<J: Journal>(journal: &mut J, text: &Bytes) -> Result<(), Failed>
-    ensures took { OnOk result (Took (J.seen journal.old) (J.seen journal.new) (record_of text.now)) }
+    ensures took { OnOk result (Took (J.seen journal.old) (J.seen journal.new)
+        (record_of text.now)) }
     ensures synced { OnOk result (IsSynced (J.seen journal.new)) }
     ensures part { OnErr result
         (HasGained (record_of text.now ∷ []) (J.seen journal.old) (J.seen journal.new)) }

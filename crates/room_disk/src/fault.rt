@@ -12,7 +12,8 @@ use scene_file::SceneFault;
 /// Why a line of a journal isn't read.
 #[derive(Clone, Copy, Debug, PartialEq, Eq, Drop)]
 pub enum LineFault {
-    /// The first line isn't one scene, for this fault. A byte behind its value that isn't white space is bad syntax.
+    /// The first line isn't one scene, for this fault. A byte behind its value that isn't white
+    /// space is bad syntax.
     Scene(SceneFault),
     /// A further line is no message, for this fault.
     Message(MsgFault),
@@ -69,8 +70,8 @@ fn told(words: &'static str) -> [Piece; 4]
 /// Why a journal isn't read.
 #[derive(Clone, Copy, Debug, PartialEq, Eq, Drop)]
 pub enum KeepFault {
-    /// The line with this number, counted from 1, is the first with a fault, and has this one. Bytes
-    /// count from the line's start.
+    /// The line with this number, counted from 1, is the first with a fault, and has this one.
+    /// Bytes count from the line's start.
     Line(u64, LineFault),
 }
 

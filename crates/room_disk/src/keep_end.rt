@@ -18,7 +18,8 @@ pub enum KeepEnd {
     LinksFull,
     /// So many events were stepped as the limit says.
     EventsFull,
-    /// The journal failed; its count of faults tells so. The event whose record was to be kept is not stepped.
+    /// The journal failed; its count of faults tells so. The event whose record was to be kept is
+    /// not stepped.
     JournalFault,
     /// Want of memory. The room is as it was after the events that it was stepped by.
     Memory,

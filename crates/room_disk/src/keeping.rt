@@ -21,12 +21,12 @@ use room_core::{Plan, Room, RoomLimits, Tally, Told, opens_link};
 use scene_file::{Head, state_text};
 use std::alloc::{AllocError, Global};
 
-/// Keeps what the room stores under its head as the first record of the journal, and then listens on
-/// the port and serves the room over the links until something ends it, as every room is served; but the
-/// record of each message with elements is appended to the journal and made safe before anything of the
-/// step is sent, and after the texts of the step its sender is told how many messages are kept by now.
-/// Where the journal fails, nothing of that step is sent, and the room is as before it. No sync is tried
-/// again that failed.
+/// Keeps what the room stores under its head as the first record of the journal, and then
+/// listens on the port and serves the room over the links until something ends it, as every room
+/// is served; but the record of each message with elements is appended to the journal and made
+/// safe before anything of the step is sent, and after the texts of the step its sender is told
+/// how many messages are kept by now. Where the journal fails, nothing of that step is sent, and
+/// the room is as before it. No sync is tried again that failed.
 pub fn keep_room<L: Links, J: Journal>(
     alloc: Global,
     room: &mut Room,
@@ -43,7 +43,8 @@ pub fn keep_room<L: Links, J: Journal>(
     requires head { IsWholeHead head.now }
     requires whole { All IsWholeElement room.old.state.elements }
     requires keys { HaveKeys room.old.state.elements }
-    ensures kept { (IsUnopened head.now room.old.state room.new.state (L.seen links.old) (L.seen links.new)
+    ensures kept { (IsUnopened head.now room.old.state room.new.state (L.seen links.old)
+        (L.seen links.new)
         (J.seen journal.old) (J.seen journal.new) result)
         ⊎ (IsKept limits.now head.now port room.old.state room.new.state
         (L.seen links.old) (L.seen links.new) (J.seen journal.old) (J.seen journal.new) result) }
@@ -97,7 +98,8 @@ fn keep_opening<J: Journal>(
     }
 }
 
-/// Keeps and serves the room event by event until something ends it. All bytes of the journal are safe.
+/// Keeps and serves the room event by event until something ends it. All bytes of the journal
+/// are safe.
 fn keep_on<L: Links, J: Journal>(
     alloc: Global,
     room: &mut Room,
@@ -161,13 +163,15 @@ fn keep_round<L: Links, J: Journal>(
         (serving_of room.new.state tally.new) messages.old messages.new
         (L.seen links.old) (L.seen links.new) (J.seen journal.old) (J.seen journal.new)) }
     ensures ended { IfErr result
-        (steps.IsKeptOn limits.now (serving_of room.old.state tally.old) messages.old room.new.state
+        (steps.IsKeptOn limits.now (serving_of room.old.state tally.old) messages.old
+        room.new.state
         (L.seen links.old) (L.seen links.new) (J.seen journal.old) (J.seen journal.new)) }
     ensures fault { result ≡ Err KeepEnd.LinkFault
         → Rose (L.seen links.old).faults (L.seen links.new).faults }
     ensures journal_fault { result ≡ Err KeepEnd.JournalFault
         → Rose (J.seen journal.old).faults (J.seen journal.new).faults }
-    ensures running { OnOk result (end_of limits.now (serving_of room.new.state tally.new) ≡ None) }
+    ensures running { OnOk result (end_of limits.now (serving_of room.new.state tally.new)
+        ≡ None) }
     ensures within { OnOk result (tally.new.opened ≤ limits.now.links) }
     ensures few { OnOk result (messages.new ≤ tally.new.stepped) }
     ensures safe { KeepsSafe (J.seen journal.old) (J.seen journal.new) }
@@ -193,8 +197,9 @@ fn keep_round<L: Links, J: Journal>(
     }
 }
 
-/// Plans the step of the event, keeps its record, makes the step, tries its texts and what tells that its message is
-/// kept, and takes the links out that are gone. Fewer messages are kept so far than the limit says.
+/// Plans the step of the event, keeps its record, makes the step, tries its texts and what tells
+/// that its message is kept, and takes the links out that are gone. Fewer messages are kept so
+/// far than the limit says.
 fn keep_event<L: Links, J: Journal>(
     alloc: Global,
     room: &mut Room,
@@ -235,8 +240,8 @@ fn keep_event<L: Links, J: Journal>(
     }
 }
 
-/// Keeps the record of a planned step, where it has one, and gives what tells the sender so. For want of memory the
-/// journal is as before. Fewer messages are kept so far than the limit says.
+/// Keeps the record of a planned step, where it has one, and gives what tells the sender so. For
+/// want of memory the journal is as before. Fewer messages are kept so far than the limit says.
 fn keep_record<J: Journal>(
     alloc: Global,
     journal: &mut J,
@@ -252,7 +257,8 @@ fn keep_record<J: Journal>(
     ensures took { OnOk result (Took (J.seen journal.old) (J.seen journal.new)
         (steps.record_bytes (record_in plan.now))) }
     ensures synced { OnOk result (IsSynced (J.seen journal.new)) }
-    ensures count { OnOk result (messages.new ≡ steps.count_with messages.old (record_in plan.now)) }
+    ensures count { OnOk result (messages.new
+        ≡ steps.count_with messages.old (record_in plan.now)) }
     ensures stopped { IfErr result
         (steps.IsRecordStopped (record_in plan.now) (J.seen journal.old) (J.seen journal.new)) }
     ensures fault { result ≡ Err KeepEnd.JournalFault

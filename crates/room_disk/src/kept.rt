@@ -53,8 +53,8 @@ fn kept_text(alloc: Global, number: u64) -> Result<Bytes, AllocError>
     Ok(Bytes::from_vec(out))
 }
 
-/// Tries the texts of a step, and after them those that tell that its message is kept, and gives the links that are
-/// gone. Want of memory ends it.
+/// Tries the texts of a step, and after them those that tell that its message is kept, and gives
+/// the links that are gone. Want of memory ends it.
 pub(crate) fn tell<L: Links>(
     alloc: Global,
     links: &mut L,

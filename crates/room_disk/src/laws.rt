@@ -1,4 +1,5 @@
-//! Laws on journals and on what a room resumes with, for all of them. They do nothing when they run.
+//! Laws on journals and on what a room resumes with, for all of them. They do nothing when they
+//! run.
 
 ghost use Rattle.std.specs.Prelude.{◌≡◌, ℕ, List, [], ◌++◌, flat_map, map, true, All, Contains, Some, None, Result, Ok};
 ghost use Rattle.std.specs.List.{list_all};
@@ -41,8 +42,8 @@ pub fn recovered_is_whole()
 }
 
 /// Whatever first part is left of the records of a run, it is recovered to the opening head and the
-/// store of the opening elements and then of the first messages, of which there are as many as records
-/// are whole behind the first one; or to nothing, where that one isn't whole.
+/// store of the opening elements and then of the first messages, of which there are as many as
+/// records are whole behind the first one; or to nothing, where that one isn't whole.
 pub fn first_records_are_recovered()
     ensures { (head : Heading) (stored : List ElementValue) (messages : List (List ElementValue))
         (left lost : List ℕ)
@@ -55,15 +56,16 @@ pub fn first_records_are_recovered()
     elem_store::laws::stores_join();
 }
 
-/// The rounds of a durable room are steps of it, as those of every room that is served. What is told of
-/// the members of rooms by their steps holds of it.
+/// The rounds of a durable room are steps of it, as those of every room that is served. What is
+/// told of the members of rooms by their steps holds of it.
 pub fn kept_rounds_are_steps()
     ensures { (limits : RoomLimits) (now : Serving) (count : ℕ) (rounds : List Round)
         → AreKeptRounds limits now count rounds
         → AreSteps now.room (steps_of rounds) (serving_at now rounds).room }
 {}
 
-/// What the updates of a joined link store is what a durable room stores, from a room without links on.
+/// What the updates of a joined link store is what a durable room stores, from a room without links
+/// on.
 pub fn member_stores_the_kept_room()
     ensures { (limits : RoomLimits) (room : RoomState) (rounds : List Round) (link : ℕ)
         → room.joined ≡ [] → are_rising (ids_of room.elements) ≡ true
@@ -76,9 +78,9 @@ pub fn member_stores_the_kept_room()
     kept_rounds_are_steps();
 }
 
-/// What a durable room stores is what is stored of the updates that it began with and then of those of
-/// its messages, whose records its journal took: so what is recovered of the whole journal is what it
-/// stored at its end.
+/// What a durable room stores is what is stored of the updates that it began with and then of those
+/// of its messages, whose records its journal took: so what is recovered of the whole journal is
+/// what it stored at its end.
 pub fn kept_room_stores_its_messages()
     ensures { (limits : RoomLimits) (now : Serving) (count : ℕ) (rounds : List Round)
         (updates : List ElementValue) → AreKeptRounds limits now count rounds
@@ -87,9 +89,9 @@ pub fn kept_room_stores_its_messages()
         (serving_at now rounds).room.elements }
 {}
 
-/// Over any chain of runs, each resumed from what was recovered of what a stop left of the one before, nothing is lost
-/// that was kept in any of them: each update that was told is stored at the end, or one of its id that beats it. It
-/// with the key that a restart gave it beats it.
+/// Over any chain of runs, each resumed from what was recovered of what a stop left of the one
+/// before, nothing is lost that was kept in any of them: each update that was told is stored at the
+/// end, or one of its id that beats it. It with the key that a restart gave it beats it.
 pub fn nothing_kept_is_lost()
     ensures { (first last : Recovered) (runs : List Run) (e : ElementValue)
         → All IsWholeElement first.elements → are_rising (ids_of first.elements) ≡ true
@@ -106,8 +108,8 @@ pub fn new_keys_beat_none()
         → beats (with_index e key) e ≡ true }
 {}
 
-/// A room resumes with the same ids, each element with a key: those that had one stay, and the others
-/// differ in their key alone. They are whole where they were.
+/// A room resumes with the same ids, each element with a key: those that had one stay, and the
+/// others differ in their key alone. They are whole where they were.
 pub fn resumed_elements_have_keys()
     ensures ids { (elements : List ElementValue) → ids_of (resumed elements) ≡ ids_of elements }
     ensures keys { (elements : List ElementValue) → HaveKeys (resumed elements) }
@@ -116,8 +118,8 @@ pub fn resumed_elements_have_keys()
         → All IsWholeElement elements → All IsWholeElement (resumed elements) }
 {}
 
-/// The layers stay: the ids of what a room resumes with are in the same scene order as before, and so are those of its
-/// live elements, which a view is made of.
+/// The layers stay: the ids of what a room resumes with are in the same scene order as before, and
+/// so are those of its live elements, which a view is made of.
 pub fn layers_stay()
     ensures all { (elements : List ElementValue)
         → are_rising (ids_of elements) ≡ true → HaveKeysOrNone elements
@@ -128,8 +130,8 @@ pub fn layers_stay()
         ≡ ids_of (in_scene_order (live_elements elements)) }
 {}
 
-/// The new keys are those between the greatest key and none, in the order of the ids. They rise, and every key that was
-/// there is at most the greatest one, above which they lie.
+/// The new keys are those between the greatest key and none, in the order of the ids. They rise,
+/// and every key that was there is at most the greatest one, above which they lie.
 pub fn new_keys_lie_above()
     ensures new { (elements : List ElementValue) → new_keys elements (resumed elements)
         ≡ map Some (keys_between (greatest_key None elements) None (keyless_count elements)) }

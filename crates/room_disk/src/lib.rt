@@ -1,5 +1,5 @@
-//! A durable room: it is served over links and kept in a journal; what its journal is read as, and what a room resumes
-//! with.
+//! A durable room: it is served over links and kept in a journal; what its journal is read as, and
+//! what a room resumes with.
 #![tactic(auto)]
 
 mod appending;

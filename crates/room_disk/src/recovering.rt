@@ -17,10 +17,10 @@ use intake::{empty_piece, line_end};
 use scene_file::Head;
 use std::alloc::{AllocError, Global};
 
-/// The head and the store of the journal that the source gives, up to its end. It holds one line at a
-/// time. A faulty line is the answer once the source is read to its end. `Failed` comes only where the
-/// source's count of faults rose. Want of memory is also told of more pieces or lines than a 64-bit
-/// number counts.
+/// The head and the store of the journal that the source gives, up to its end. It holds one line at
+/// a time. A faulty line is the answer once the source is read to its end. `Failed` comes only
+/// where the source's count of faults rose. Want of memory is also told of more pieces or lines
+/// than a 64-bit number counts.
 pub fn recover<S: Source>(
     alloc: Global,
     source: &mut S,

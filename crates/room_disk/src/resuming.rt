@@ -13,8 +13,8 @@ use elem_store::Store;
 use frac_keys::{Key, between};
 use std::alloc::{AllocError, Global};
 
-/// The store, in which each element without a key has one above the greatest of all, in the order of the ids: so each
-/// element lies where it lay. Fails only for want of memory.
+/// The store, in which each element without a key has one above the greatest of all, in the order
+/// of the ids: so each element lies where it lay. Fails only for want of memory.
 pub fn resume(alloc: Global, store: Store) -> Result<Store, AllocError>
     ensures { IfOk result (λ new. new.elements ≡ resumed store.elements) }
 {

@@ -25,23 +25,31 @@ alone text compact = record {
   space = refl;
 }
 
-elements-compact : (limit : ℕ) (elements : List ElementValue) → 120 ≤ limit → All IsWholeElement elements → AllByRecursion (IsCompact limit) (map element_text elements)
+elements-compact : (limit : ℕ) (elements : List ElementValue) → 120 ≤ limit → All IsWholeElement elements
+    → AllByRecursion (IsCompact limit) (map element_text elements)
 elements-compact limit elements deep whole =
     recursion_from_All (IsCompact limit) (map element_text elements)
-    (All-map (IsCompact limit) element_text elements (All-weaker IsWholeElement (λ e. IsCompact limit (element_text e)) (λ e is. Value-deeper deep is.shallow) elements whole))
+    (All-map (IsCompact limit) element_text elements (All-weaker IsWholeElement (λ e. IsCompact limit (element_text e))
+    (λ e is. Value-deeper deep is.shallow) elements whole))
 
 inner : List ElementValue → List Pair
 inner elements = (codes "elements", array_text (map element_text elements)) ∷ []
 
-inner-are : (limit : ℕ) (elements : List ElementValue) → 121 ≤ limit → All IsWholeElement elements → AreMembers limit (inner elements)
+inner-are : (limit : ℕ) (elements : List ElementValue) → 121 ≤ limit → All IsWholeElement elements
+    → AreMembers limit (inner elements)
 unfolding inner
 inner-are limit elements deep whole = record {
   named = (literal (codes "elements") refl, tt);
-  valued = (Value-deeper deep (array-compact 120 (map element_text elements) (elements-compact 120 elements (lit≤ tt) whole)), tt);
+  valued = (
+    Value-deeper deep (array-compact 120 (map element_text elements)
+        (elements-compact 120 elements (lit≤ tt) whole)),
+    tt,
+  );
   distinct = IsDistinct-from_count nat_list_eq_equiv _ refl;
 }
 
-tagged-are : (tag : List ℕ) (elements : List ElementValue) → IsUtf8 tag → All IsWholeElement elements → AreMembers 127 (tagged_members tag elements)
+tagged-are : (tag : List ℕ) (elements : List ElementValue) → IsUtf8 tag → All IsWholeElement elements
+    → AreMembers 127 (tagged_members tag elements)
 unfolding inner
 tagged-are tag elements utf8 whole = record {
   named = (literal (codes "type") refl, (literal (codes "payload") refl, tt));
@@ -52,7 +60,8 @@ tagged-are tag elements utf8 whole = record {
   distinct = IsDistinct-from_count nat_list_eq_equiv _ refl;
 }
 
-has-elements : (tag : List ℕ) (elements : List ElementValue) → IsUtf8 tag → All IsWholeElement elements → HasElements (object_text (tagged_members tag elements)) tag elements
+has-elements : (tag : List ℕ) (elements : List ElementValue) → IsUtf8 tag → All IsWholeElement elements
+    → HasElements (object_text (tagged_members tag elements)) tag elements
 unfolding inner
 has-elements tag elements utf8 whole = record {
   members = tagged_members tag elements;
@@ -70,17 +79,29 @@ has-elements tag elements utf8 whole = record {
   read = AreRead-texts elements whole;
 }
 
-tagged-alone : (tag : List ℕ) (elements : List ElementValue) → IsUtf8 tag → All IsWholeElement elements → StandsAlone (object_text (tagged_members tag elements)) (object_text (tagged_members tag elements))
+tagged-alone : (tag : List ℕ) (elements : List ElementValue) → IsUtf8 tag → All IsWholeElement elements
+    → StandsAlone (object_text (tagged_members tag elements)) (object_text (tagged_members tag elements))
 tagged-alone tag elements utf8 whole =
-    alone (object_text (tagged_members tag elements)) (object-compact 127 (tagged_members tag elements) (tagged-are tag elements utf8 whole))
+    alone (object_text (tagged_members tag elements))
+    (object-compact 127 (tagged_members tag elements) (tagged-are tag elements utf8 whole))
 
 pub read-back : (message : Message) → IsWholeMessage message → IsReadAs (message_text message) (Ok message)
 unfolding message_text
 read-back (Init elements) whole =
-    let utf8 = literal init_tag refl in
-    (object_text (tagged_members init_tag elements), tagged-alone init_tag elements utf8 whole, has-elements init_tag elements utf8 whole)
+    let utf8 = literal init_tag refl in (
+      object_text (tagged_members init_tag elements),
+      tagged-alone init_tag elements utf8 whole,
+      has-elements init_tag elements utf8 whole,
+    )
 read-back (Update elements) whole =
-    let utf8 = literal update_tag refl in
-    (object_text (tagged_members update_tag elements), tagged-alone update_tag elements utf8 whole, has-elements update_tag elements utf8 whole)
-read-back (Presence value) is =
-    (value, alone value (subst (IsCompact 128) (sym is.object.spelled) (object-compact 127 is.members is.object.are_members)), (refl, is))
+    let utf8 = literal update_tag refl in (
+      object_text (tagged_members update_tag elements),
+      tagged-alone update_tag elements utf8 whole,
+      has-elements update_tag elements utf8 whole,
+    )
+read-back (Presence value) is = (
+  value,
+  alone value (subst (IsCompact 128) (sym is.object.spelled)
+      (object-compact 127 is.members is.object.are_members)),
+  (refl, is),
+)

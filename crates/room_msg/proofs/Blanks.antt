@@ -16,4 +16,5 @@ run-blank (x ∷ xs) all =
 
 pub blank-run : (xs : List ℕ) → is_blank xs ≡ true → prefix_len is_space xs < length xs → ⊥
 blank-run xs blank less =
-    both_ways (is_blank xs) (list_all_at is_space xs (prefix_len is_space xs) 0 less (prefix_len_stops is_space xs 0 less)) blank
+    both_ways (is_blank xs) (list_all_at is_space xs (prefix_len is_space xs) 0 less
+    (prefix_len_stops is_space xs 0 less)) blank

@@ -37,17 +37,21 @@ given message = Ok message
 payload-once : (members : List Pair) (vs ws : List (List ℕ)) → HasPayload members vs → HasPayload members ws → vs ≡ ws
 payload-once members vs ws one two =
     let text = same_Some one.payload two.payload (sym one.named ∙ two.named) in
-    let inner = members-once two.payload one.others two.others (subst (λ t. IsObject t one.others) text one.object) two.object in
+    let inner = members-once two.payload one.others two.others (subst (λ t. IsObject t one.others) text one.object)
+    two.object in
     array-once vs ws one.compact two.compact
     (same_Some (array_text vs) (array_text ws) (sym one.array ∙ ap (value_at (codes "elements")) inner ∙ two.array))
 
 -- what members are read as that are to have elements
 data Carried (members : List Pair) (make : List ElementValue → Message) (answer : Answer) : Type 0 where
   none : answer ≡ Err Payload → ((values : List (List ℕ)) → HasPayload members values → ⊥) → Carried members make answer
-  faulty : (values : List (List ℕ)) (place : ℕ) (why : ElemFault) → HasPayload members values → answer ≡ Err (Element place why) → IsFirstFaulty values place why → Carried members make answer
-  read : (values : List (List ℕ)) (elements : List ElementValue) → HasPayload members values → answer ≡ Ok (make elements) → AreRead values elements → Carried members make answer
+  faulty : (values : List (List ℕ)) (place : ℕ) (why : ElemFault) → HasPayload members values
+      → answer ≡ Err (Element place why) → IsFirstFaulty values place why → Carried members make answer
+  read : (values : List (List ℕ)) (elements : List ElementValue) → HasPayload members values
+      → answer ≡ Ok (make elements) → AreRead values elements → Carried members make answer
 
-carried-once : (members : List Pair) (make : List ElementValue → Message) (a b : Answer) → Carried members make a → Carried members make b → a ≡ b
+carried-once : (members : List Pair) (make : List ElementValue → Message) (a b : Answer) → Carried members make a
+    → Carried members make b → a ≡ b
 carried-once members make a b (none e one) (none f two) = e ∙ sym f
 carried-once members make a b (none e one) (faulty ws place why has f two) = absurd (one ws has)
 carried-once members make a b (none e one) (read ws fs has f two) = absurd (one ws has)
@@ -57,10 +61,12 @@ carried-once members make a b (faulty vs place why has e one) (faulty ws place' 
     let both = faulty-once vs place place' why why' one (subst (λ us. IsFirstFaulty us place' why') same two) in
     e ∙ (ap₂ (λ p w. refused (Element p w)) both.0 both.1 ∙ sym f)
 carried-once members make a b (faulty vs place why has e one) (read ws fs has' f two) =
-    absurd (faultless ws fs place why two (subst (λ us. IsFirstFaulty us place why) (payload-once members vs ws has has') one))
+    absurd (faultless ws fs place why two
+    (subst (λ us. IsFirstFaulty us place why) (payload-once members vs ws has has') one))
 carried-once members make a b (read vs es has e one) (none f two) = absurd (two vs has)
 carried-once members make a b (read vs es has e one) (faulty ws place why has' f two) =
-    absurd (faultless vs es place why one (subst (λ us. IsFirstFaulty us place why) (payload-once members ws vs has' has) two))
+    absurd (faultless vs es place why one
+    (subst (λ us. IsFirstFaulty us place why) (payload-once members ws vs has' has) two))
 carried-once members make a b (read vs es has e one) (read ws fs has' f two) =
     let same = read-once vs es fs one (subst (λ us. AreRead us fs) (payload-once members ws vs has' has) two) in
     e ∙ (ap (λ elements. given (make elements)) same ∙ sym f)
@@ -74,7 +80,8 @@ data ByTag (text : List ℕ) (members : List Pair) (tag : List ℕ) (answer : An
   update : tag ≡ update_tag → Carried members Update answer → ByTag text members tag answer
   plain : tag ≢ init_tag → tag ≢ update_tag → answer ≡ Ok (Presence text) → ByTag text members tag answer
 
-by-tag-once : (text : List ℕ) (members : List Pair) (tag : List ℕ) (a b : Answer) → ByTag text members tag a → ByTag text members tag b → a ≡ b
+by-tag-once : (text : List ℕ) (members : List Pair) (tag : List ℕ) (a b : Answer) → ByTag text members tag a
+    → ByTag text members tag b → a ≡ b
 by-tag-once text members tag a b (init t one) (init u two) = carried-once members Init a b one two
 by-tag-once text members tag a b (init t one) (update u two) = absurd (tags-apart (sym t ∙ u))
 by-tag-once text members tag a b (init t one) (plain n m f) = absurd (n t)
@@ -110,9 +117,13 @@ of_value-once text a b (object ms is one) (object ns are two) =
     typed-once text ms a b one (subst (λ os. Typed text os b) (members-once text ns ms are is) two)
 
 is-message : (text : List ℕ) (message : Message) → IsMessageOf text message → OfValue text (Ok message)
-is-message text (Init elements) m = object m.members m.object (tagged init_tag m.tagged (init refl (read m.values elements m.payload refl m.read)))
-is-message text (Update elements) m = object m.members m.object (tagged update_tag m.tagged (update refl (read m.values elements m.payload refl m.read)))
-is-message text (Presence value) m = object m.1.members m.1.object (tagged m.1.tag m.1.tagged (plain m.1.not_init m.1.not_update (ap (λ v. given (Presence v)) m.0)))
+is-message text (Init elements) m =
+    object m.members m.object (tagged init_tag m.tagged (init refl (read m.values elements m.payload refl m.read)))
+is-message text (Update elements) m =
+    object m.members m.object (tagged update_tag m.tagged (update refl (read m.values elements m.payload refl m.read)))
+is-message text (Presence value) m =
+    object m.1.members m.1.object (tagged m.1.tag m.1.tagged
+    (plain m.1.not_init m.1.not_update (ap (λ v. given (Presence v)) m.0)))
 
 is-fault : (text : List ℕ) (fault : MsgFault) → IsMessageFault text fault → OfValue text (Err fault)
 is-fault text (Json found) is = absurd is.3
@@ -120,8 +131,10 @@ is-fault text NotObject is = apart refl is
 is-fault text Tag is = object is.0 is.1 (untagged refl is.2)
 is-fault text Payload (ms, is, inl tag, lacks) = object ms is (tagged init_tag tag (init refl (none refl lacks)))
 is-fault text Payload (ms, is, inr tag, lacks) = object ms is (tagged update_tag tag (update refl (none refl lacks)))
-is-fault text (Element place why) (ms, is, inl tag, (vs, has, first)) = object ms is (tagged init_tag tag (init refl (faulty vs place why has refl first)))
-is-fault text (Element place why) (ms, is, inr tag, (vs, has, first)) = object ms is (tagged update_tag tag (update refl (faulty vs place why has refl first)))
+is-fault text (Element place why) (ms, is, inl tag, (vs, has, first)) =
+    object ms is (tagged init_tag tag (init refl (faulty vs place why has refl first)))
+is-fault text (Element place why) (ms, is, inr tag, (vs, has, first)) =
+    object ms is (tagged update_tag tag (update refl (faulty vs place why has refl first)))
 
 -- ---- bytes
 data OfBytes (bytes : List ℕ) (answer : Answer) : Type 0 where
@@ -133,7 +146,17 @@ pub more-once : (bytes : List ℕ) (at other : ℕ) → HasMore bytes at → Has
 more-once bytes at other one two =
     let rest = (Stands-once one.stands two.stands).1 in
     let run = ap (prefix_len is_space) rest in
-    omega (arith, one.within, two.within, one.behind, two.behind, run, ap length rest, length-drop one.after bytes, length-drop two.after bytes)
+    omega (
+      arith,
+      one.within,
+      two.within,
+      one.behind,
+      two.behind,
+      run,
+      ap length rest,
+      length-drop one.after bytes,
+      length-drop two.after bytes,
+    )
 
 pub more-alone : (bytes text : List ℕ) (at : ℕ) → HasMore bytes at → StandsAlone bytes text → ⊥
 more-alone bytes text at one two =
@@ -144,10 +167,13 @@ more-alone bytes text at one two =
 of_bytes-once : (bytes : List ℕ) (a b : Answer) → OfBytes bytes a → OfBytes bytes b → a ≡ b
 of_bytes-once bytes a b (form found e one) (form why f two) =
     e ∙ (ap (λ j. refused (Json j)) (json.fault-once bytes 0 found why one.first two.first) ∙ sym f)
-of_bytes-once bytes a b (form found e one) (more at f two) = absurd (one.faulty two.text (drop two.after bytes) two.stands)
+of_bytes-once bytes a b (form found e one) (more at f two) =
+    absurd (one.faulty two.text (drop two.after bytes) two.stands)
 of_bytes-once bytes a b (form found e one) (alone text two is) = absurd (one.faulty text two.rest two.stands)
-of_bytes-once bytes a b (more at e one) (form found f two) = absurd (two.faulty one.text (drop one.after bytes) one.stands)
-of_bytes-once bytes a b (more at e one) (more at' f two) = e ∙ (ap (λ n. refused (Json (Syntax n))) (more-once bytes at at' one two) ∙ sym f)
+of_bytes-once bytes a b (more at e one) (form found f two) =
+    absurd (two.faulty one.text (drop one.after bytes) one.stands)
+of_bytes-once bytes a b (more at e one) (more at' f two) =
+    e ∙ (ap (λ n. refused (Json (Syntax n))) (more-once bytes at at' one two) ∙ sym f)
 of_bytes-once bytes a b (more at e one) (alone text two is) = absurd (more-alone bytes text at one two)
 of_bytes-once bytes a b (alone text one is) (form found f two) = absurd (two.faulty text one.rest one.stands)
 of_bytes-once bytes a b (alone text one is) (more at f two) = absurd (more-alone bytes text at two one)
@@ -163,5 +189,7 @@ of-bytes bytes (Err Tag) is = alone is.0 is.1 (is-fault is.0 Tag is.2)
 of-bytes bytes (Err Payload) is = alone is.0 is.1 (is-fault is.0 Payload is.2)
 of-bytes bytes (Err (Element place why)) is = alone is.0 is.1 (is-fault is.0 (Element place why) is.2)
 
-pub answer-once : (bytes : List ℕ) (answer other : Answer) → IsReadAs bytes answer → IsReadAs bytes other → answer ≡ other
-answer-once bytes answer other one two = of_bytes-once bytes answer other (of-bytes bytes answer one) (of-bytes bytes other two)
+pub answer-once : (bytes : List ℕ) (answer other : Answer) → IsReadAs bytes answer → IsReadAs bytes other
+    → answer ≡ other
+answer-once bytes answer other one two =
+    of_bytes-once bytes answer other (of-bytes bytes answer one) (of-bytes bytes other two)

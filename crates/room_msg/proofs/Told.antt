@@ -10,10 +10,13 @@ use Rattle.room_msg.specs.Messages.{init_tag, update_tag, HasTag, IsPresence, Is
 use Rattle.room_msg.specs.declared.fault.MsgFault.{MsgFault}
 use Rattle.room_msg.specs.declared.fault.MsgFault.TheVariants.{Json, NotObject, Tag, Payload, Element}
 
-pub has-tag : (members : List Pair) (tag : List ℕ) → list_all (λ b. nat_lt b 128) tag ≡ true → value_at (codes "type") members ≡ Some (quote tag) → HasTag members tag
+pub has-tag : (members : List Pair) (tag : List ℕ) → list_all (λ b. nat_lt b 128) tag ≡ true
+    → value_at (codes "type") members ≡ Some (quote tag) → HasTag members tag
 has-tag members tag ascii found = (literal tag ascii, found)
 
-pub presence : (text : List ℕ) (members : List Pair) (tag : List ℕ) → IsObject text members → HasTag members tag → (value_at (codes "type") members ≡ Some (quote init_tag) → ⊥) → (value_at (codes "type") members ≡ Some (quote update_tag) → ⊥) → IsPresence text
+pub presence : (text : List ℕ) (members : List Pair) (tag : List ℕ) → IsObject text members → HasTag members tag
+    → (value_at (codes "type") members ≡ Some (quote init_tag) → ⊥)
+    → (value_at (codes "type") members ≡ Some (quote update_tag) → ⊥) → IsPresence text
 presence text members tag object has not_init not_update = record {
   members = members;
   object = object;
@@ -23,14 +26,16 @@ presence text members tag object has not_init not_update = record {
   not_update = λ same. not_update (has.1 ∙ ap (λ t. Some (quote t)) same);
 }
 
-pub payload-fault : (text : List ℕ) (members : List Pair) (fault : MsgFault) → IsObject text members → HasTag members init_tag ⊎ HasTag members update_tag → IsPayloadFault members fault → IsMessageFault text fault
+pub payload-fault : (text : List ℕ) (members : List Pair) (fault : MsgFault) → IsObject text members
+    → HasTag members init_tag ⊎ HasTag members update_tag → IsPayloadFault members fault → IsMessageFault text fault
 payload-fault text members (Json found) object tag is = absurd is
 payload-fault text members NotObject object tag is = absurd is
 payload-fault text members Tag object tag is = absurd is
 payload-fault text members Payload object tag is = (members, object, tag, is)
 payload-fault text members (Element place why) object tag is = (members, object, tag, is)
 
-pub fault-alone : (bytes text : List ℕ) (fault : MsgFault) → StandsAlone bytes text → IsMessageFault text fault → IsReadAs bytes (Err fault)
+pub fault-alone : (bytes text : List ℕ) (fault : MsgFault) → StandsAlone bytes text → IsMessageFault text fault
+    → IsReadAs bytes (Err fault)
 fault-alone bytes text (Json found) stands is = absurd is.3
 fault-alone bytes text NotObject stands is = (text, stands, is)
 fault-alone bytes text Tag stands is = (text, stands, is)

@@ -10,4 +10,5 @@ message_fault_words (Json fault) = json_words fault
 message_fault_words NotObject = codes "not an object"
 message_fault_words Tag = codes "type"
 message_fault_words Payload = codes "payload"
-message_fault_words (Element place fault) = codes "element " ++ (decimal place ++ (codes ": " ++ fault_word fault))
+message_fault_words (Element place fault) =
+    codes "element " ++ (decimal place ++ (codes ": " ++ fault_word fault))

@@ -1,5 +1,6 @@
--- What bytes are read as: a message, or a first fault. After the messages of Excalidraw's collaboration; that a type of
--- another name is kept whole, and the order and places of faults, is this project's own.
+-- What bytes are read as: a message, or a first fault. After the messages of Excalidraw's
+-- collaboration; that a type of another name is kept whole, and the order and places of faults, is
+-- this project's own.
 use Rattle.std.specs.Prelude.{◌≡◌, ◌≢◌, ◌⊎◌, ℕ, ◌+◌, ◌<◌, ◌≤◌, List, Some, Result, Ok, Err, All, true, codes, length, drop}
 use Rattle.std.specs.List.{AllByRecursion, prefix_len}
 use Rattle.json_text.specs.Characters.{is_blank, is_space}
@@ -71,9 +72,11 @@ IsPayloadFault members other = ⊥
 -- the first fault of a compact text that is no message
 abbrev pub IsMessageFault : List ℕ → MsgFault → Type 0
 IsMessageFault text NotObject = (members : List Pair) → IsObject text members → ⊥
-IsMessageFault text Tag = (members : List Pair) × IsObject text members × ((tag : List ℕ) → HasTag members tag → ⊥)
+IsMessageFault text Tag =
+    (members : List Pair) × IsObject text members × ((tag : List ℕ) → HasTag members tag → ⊥)
 IsMessageFault text fault =
-    (members : List Pair) × IsObject text members × (HasTag members init_tag ⊎ HasTag members update_tag)
+    (members : List Pair) × IsObject text members
+    × (HasTag members init_tag ⊎ HasTag members update_tag)
     × IsPayloadFault members fault
 
 -- One value stands in the bytes, in whatever spelling, and white space alone around it.
@@ -94,10 +97,12 @@ pub record HasMore (bytes : List ℕ) (at : ℕ) : Type 0 where
 -- What the bytes are read as: this message, or this first fault.
 abbrev pub IsReadAs : List ℕ → Result Message MsgFault → Type 0
 IsReadAs bytes (Ok message) = (text : List ℕ) × StandsAlone bytes text × IsMessageOf text message
-IsReadAs bytes (Err (Json fault)) = IsFirstFault bytes 0 fault ⊎ ((at : ℕ) × (fault ≡ Syntax at) × HasMore bytes at)
+IsReadAs bytes (Err (Json fault)) =
+    IsFirstFault bytes 0 fault ⊎ ((at : ℕ) × (fault ≡ Syntax at) × HasMore bytes at)
 IsReadAs bytes (Err fault) = (text : List ℕ) × StandsAlone bytes text × IsMessageFault text fault
 
--- Reading the message's text gives the message: its elements are whole, or it is read as no elements.
+-- Reading the message's text gives the message: its elements are whole, or it is read as no
+-- elements.
 abbrev pub IsWholeMessage : Message → Type 0
 IsWholeMessage (Init elements) = All IsWholeElement elements
 IsWholeMessage (Update elements) = All IsWholeElement elements

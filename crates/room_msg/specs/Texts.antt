@@ -11,7 +11,10 @@ use Rattle.room_msg.specs.declared.message.Message.TheVariants.{Init, Update, Pr
 -- the members of a message of this type with these elements
 abbrev pub tagged_members : List ℕ → List ElementValue → List Pair
 tagged_members tag elements =
-    (codes "type", quote tag) ∷ (codes "payload", object_text ((codes "elements", array_text (map element_text elements)) ∷ [])) ∷ []
+    (codes "type", quote tag) ∷ (
+      codes "payload",
+      object_text ((codes "elements", array_text (map element_text elements)) ∷ []),
+    ) ∷ []
 
 -- of a presence the text that it came as
 unfoldable pub message_text : Message → List ℕ

@@ -18,7 +18,8 @@ pub enum MsgFault {
     Tag,
     /// `payload` isn't an object whose `elements` is an array, where the type asks for it.
     Payload,
-    /// The element at this place of the array, counted from 0, is the first with a fault, and has this one.
+    /// The element at this place of the array, counted from 0, is the first with a fault, and has
+    /// this one.
     Element(u64, ElemFault),
 }
 

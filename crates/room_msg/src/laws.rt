@@ -19,10 +19,12 @@ pub fn reading_exists()
 
 /// Every message that is read is whole.
 pub fn read_messages_are_whole()
-    ensures { (bytes : List ℕ) (message : Message) → IsReadAs bytes (Ok message) → IsWholeMessage message }
+    ensures { (bytes : List ℕ) (message : Message) → IsReadAs bytes (Ok message)
+        → IsWholeMessage message }
 {}
 
 /// The text of a whole message is read as that message.
 pub fn text_is_read_back()
-    ensures { (message : Message) → IsWholeMessage message → IsReadAs (message_text message) (Ok message) }
+    ensures { (message : Message) → IsWholeMessage message
+        → IsReadAs (message_text message) (Ok message) }
 {}

@@ -11,7 +11,8 @@ use elem::{Element, push_elements};
 use json_text::push_quoted;
 use std::alloc::{AllocError, Global};
 
-/// The text of a message: its elements' texts, or the compact text of a presence. Fails only for want of memory.
+/// The text of a message: its elements' texts, or the compact text of a presence. Fails only for
+/// want of memory.
 pub fn message_text(alloc: Global, message: &Message) -> Result<Bytes, AllocError>
     ensures { IfOk result (λ text. text ≡ texts.message_text message.now) }
 {

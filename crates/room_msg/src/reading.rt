@@ -20,7 +20,8 @@ use std::alloc::{AllocError, Global};
 /// The message that the bytes are, or their first fault.
 pub fn read_message(alloc: Global, bytes: &[u8]) -> Result<Message, Stop<MsgFault>>
     ensures message { IfOk result (λ message. IsReadAs bytes.now (Ok message)) }
-    ensures fault { (fault : MsgFault) → result ≡ Err (Stop.Fault fault) → IsReadAs bytes.now (Err fault) }
+    ensures fault { (fault : MsgFault) → result ≡ Err (Stop.Fault fault)
+        → IsReadAs bytes.now (Err fault) }
     ensures whole { IfOk result IsWholeMessage }
 {
     let value = lone_value(alloc, bytes)?;
@@ -30,7 +31,8 @@ pub fn read_message(alloc: Global, bytes: &[u8]) -> Result<Message, Stop<MsgFaul
 /// The one value that the bytes are, white space around it.
 fn lone_value(alloc: Global, bytes: &[u8]) -> Result<Raw, Stop<MsgFault>>
     ensures alone { IfOk result (StandsAlone bytes.now) }
-    ensures fault { (fault : MsgFault) → result ≡ Err (Stop.Fault fault) → IsReadAs bytes.now (Err fault) }
+    ensures fault { (fault : MsgFault) → result ≡ Err (Stop.Fault fault)
+        → IsReadAs bytes.now (Err fault) }
 {
     let (value, after) = match scan(alloc, bytes, 0) {
         Ok(found) => found,
@@ -47,7 +49,8 @@ fn lone_value(alloc: Global, bytes: &[u8]) -> Result<Raw, Stop<MsgFault>>
 /// The message that a value is, or its first fault.
 fn message_of(alloc: Global, value: Raw) -> Result<Message, Stop<MsgFault>>
     ensures message { IfOk result (IsMessageOf value) }
-    ensures fault { (fault : MsgFault) → result ≡ Err (Stop.Fault fault) → IsMessageFault value fault }
+    ensures fault { (fault : MsgFault) → result ≡ Err (Stop.Fault fault)
+        → IsMessageFault value fault }
     ensures whole { IfOk result IsWholeMessage }
 {
     let Some(found) = shaped(members(alloc, &value))? else {
@@ -68,8 +71,10 @@ fn message_of(alloc: Global, value: Raw) -> Result<Message, Stop<MsgFault>>
 /// The elements of the payload among these members, or the first fault of it.
 fn elements_of(alloc: Global, members: &List<Member>) -> Result<List<Element>, Stop<MsgFault>>
     ensures read { IfOk result (λ elements.
-        (values : Items (Items ℕ)) × HasPayload (pairs members.now) values × AreRead values elements) }
-    ensures fault { (fault : MsgFault) → result ≡ Err (Stop.Fault fault) → IsPayloadFault (pairs members.now) fault }
+        (values : Items (Items ℕ)) × HasPayload (pairs members.now) values
+        × AreRead values elements) }
+    ensures fault { (fault : MsgFault) → result ≡ Err (Stop.Fault fault)
+        → IsPayloadFault (pairs members.now) fault }
     ensures whole { IfOk result (All IsWholeElement) }
 {
     let Some(values) = payload_items(alloc, members)? else {

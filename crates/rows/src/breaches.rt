@@ -1,4 +1,5 @@
-//! What links over sockets answer to handshakes that are none, to breaches and to peers that read late.
+//! What links over sockets answer to handshakes that are none, to breaches and to peers that read
+//! late.
 
 use crate::sockets::{Client, Host, PATIENCE, is_text, join, listen, told, writes};
 use mio::net::TcpStream;

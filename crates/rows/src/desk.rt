@@ -28,14 +28,16 @@ pub(crate) enum Act {
     Pending,
     /// An entry is undone, and what that gives is taken.
     Undo,
-    /// What is pending is captured, and is undone as the entry that is noted first; both planned and then put.
+    /// What is pending is captured, and is undone as the entry that is noted first; both planned
+    /// and then put.
     UndoPending,
     /// An undo is undone, and what that gives is taken.
     Redo,
 }
 
-/// The store, the snapshot with the ids that were stored since it was taken, and the history. Each id that the snapshot
-/// or an entry has is stored; of each id that isn't touched the snapshot has what is stored.
+/// The store, the snapshot with the ids that were stored since it was taken, and the history. Each
+/// id that the snapshot or an entry has is stored; of each id that isn't touched the snapshot has
+/// what is stored.
 struct Desk {
     store: Store,
     snapshot: Snapshot,
@@ -69,8 +71,8 @@ impl Model for Desk {
         × AreUntouched d.touched d.snapshot.elements d.store.elements };
 }
 
-/// What is told of acts on a new desk: of a capture its entry, of an undo or a redo what it gives, and how many entries
-/// can be undone and redone then.
+/// What is told of acts on a new desk: of a capture its entry, of an undo or a redo what it gives,
+/// and how many entries can be undone and redone then.
 pub(crate) fn told_of(alloc: Global, acts: &[Act]) -> Result<Vec<u8>, Fail> {
     let mut desk = Desk::new(alloc);
     let mut told = Vec::new(alloc);

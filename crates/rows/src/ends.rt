@@ -54,8 +54,8 @@ fn reading_ends_at_the_byte_after_the_limit(rt: HostRuntime) {
     assert_eq!(rt; reads_text(rt.alloc(), 4, 99, 10), Ok(true));
 }
 
-/// Whether a sink with this room, whose write of this number fails, holds so many bytes of the text after it was
-/// written, and fails unless these are all.
+/// Whether a sink with this room, whose write of this number fails, holds so many bytes of the text
+/// after it was written, and fails unless these are all.
 fn holds(
     alloc: Global,
     chunk: usize,
@@ -191,7 +191,8 @@ fn a_journal_keeps_what_is_safe(rt: HostRuntime) -> Result<(), Fail> {
     Ok(())
 }
 
-/// Links over three events, of whose calls that of number 2 fails, and whose send of number 1 finds its link gone.
+/// Links over three events, of whose calls that of number 2 fails, and whose send of number 1 finds
+/// its link gone.
 fn script(alloc: Global) -> Result<ScriptLinks, AllocError> {
     let text = Bytes::from_slice(alloc, b"hi")?;
     let events = vec![in alloc;

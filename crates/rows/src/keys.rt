@@ -69,7 +69,8 @@ fn is_less_key(key: &Key, above: &Key) -> bool
     key.as_bytes() < bytes
 }
 
-/// What is told of the keys that become of a list of these and of positions without one, below another key.
+/// What is told of the keys that become of a list of these and of positions without one, below
+/// another key.
 fn repaired(alloc: Global, keys: &[&str], above: &str) -> Result<Vec<u8>, Fail> {
     let mut list = Vec::new(alloc);
     for bytes in keys {

@@ -1,5 +1,5 @@
-//! Tests of calls that no words of the program reach. What each is to answer comes from the rules, or was worked out by
-//! hand.
+//! Tests of calls that no words of the program reach. What each is to answer comes from the rules,
+//! or was worked out by hand.
 #![tactic(auto)]
 
 #[cfg(test)]

@@ -73,7 +73,8 @@ fn is_of_one_id(old: &Element, new: &Element) -> bool
     old.id.as_bytes() == new.id.as_bytes()
 }
 
-/// What is captured of an element that is set here and deleted by what is delivered, and of one that comes with it.
+/// What is captured of an element that is set here and deleted by what is delivered, and of one
+/// that comes with it.
 fn captured(alloc: Global, planned: bool) -> Result<Vec<u8>, Fail> {
     let (mut store, mut snapshot) = (Store::new(alloc), Snapshot::new(alloc));
     take(

@@ -28,15 +28,23 @@ joined-exists heads =
     let settings = files-exist (settings_of heads) in
     let files = files-exist (files_of heads) in (
       record { source = least_source heads; app_state = unpaired settings.0; files = files.0 },
-      record { source = refl; app_state = subst (AreLeastEntries (settings_of heads)) (sym (pairs-unpaired settings.0)) settings.1; files = files.1 },
+      record {
+        source = refl;
+        app_state = subst (AreLeastEntries (settings_of heads)) (sym (pairs-unpaired settings.0))
+            settings.1;
+        files = files.1;
+      },
     )
 
 -- ---- what is given
-fits-value_unless_null : (name : List ℕ) (members : List Pair) → AreMembers 127 members → Fits (value_unless_null name members)
+fits-value_unless_null : (name : List ℕ) (members : List Pair) → AreMembers 127 members
+    → Fits (value_unless_null name members)
 fits-value_unless_null name members are =
-    elim (value_at name members) as (λ (found : Option (List ℕ)). Fits found → Fits (elim found [ None ↦ None | Some value ↦ if bytes_eq value null_word then None else Some value ])) [
+    elim (value_at name members) as (λ (found : Option (List ℕ)). Fits found
+    → Fits (elim found [ None ↦ None | Some value ↦ if bytes_eq value null_word then None else Some value ])) [
       | None ↦ λ fits. tt
-      | Some value ↦ λ fits. elim (bytes_eq value null_word) as (λ (b : Bool). Fits (if b then None else Some value)) [ true ↦ tt | false ↦ fits ]
+      | Some value ↦ λ fits. elim (bytes_eq value null_word) as (λ (b : Bool). Fits (if b then None else Some value))
+          [ true ↦ tt | false ↦ fits ]
     ] (fits-in 127 members (lit≤ tt) are name)
 
 items-or-not : (found : Option (List ℕ)) → Fits found → Decided (HasItems found)
@@ -53,7 +61,8 @@ members-or-not (Some value) fits = elim (object-or-not value fits) [
   | inr none ↦ inr (λ members has. none members has.spelled)
 ]
 
-items-compact : (found : Option (List ℕ)) (values : List (List ℕ)) → HasItems found values → AllByRecursion (IsCompact 127) values
+items-compact : (found : Option (List ℕ)) (values : List (List ℕ)) → HasItems found values
+    → AllByRecursion (IsCompact 127) values
 items-compact None values none = subst (AllByRecursion (IsCompact 127)) (sym none) tt
 items-compact (Some value) values has = has.0
 
@@ -64,7 +73,8 @@ is-text found wanted fits = by (text-or-not found fits)
     by (inr none) = inr (λ is. none wanted is)
     by (inl (text, is)) = elim (cases_Bool (bytes_eq text wanted)) [
       | inl e ↦ inl (subst (IsText found) (bytes_eq-true text wanted e) is)
-      | inr e ↦ inr (λ also. both_ways (bytes_eq text wanted) e (ap (λ t. bytes_eq t wanted) (text-once found text wanted is also) ∙ bytes_eq-same wanted))
+      | inr e ↦ inr (λ also. both_ways (bytes_eq text wanted) e
+          (ap (λ t. bytes_eq t wanted) (text-once found text wanted is also) ∙ bytes_eq-same wanted))
     ]
 
 -- ---- the head
@@ -77,7 +87,9 @@ source-of found fits = elim (text-or-not found fits) [
 ordered : (members : List Pair) → (all : List Pair) × HaveRisingNames all × AreSameMembers all members
 ordered members = tabled (names_of members) (find_in members) (λ name none. not-named name members none)
 
-head-of : (members settings entries : List Pair) → AreMembers 127 members → HasMembers (value_unless_null (codes "appState") members) settings → HasMembers (value_unless_null (codes "files") members) entries
+head-of : (members settings entries : List Pair) → AreMembers 127 members
+    → HasMembers (value_unless_null (codes "appState") members) settings
+    → HasMembers (value_unless_null (codes "files") members) entries
     → (head : Heading) × IsHeadOf members head
 head-of members settings entries are state table =
     let source = source-of (value_at (codes "source") members) (fits-in 127 members (lit≤ tt) are (codes "source")) in
@@ -105,10 +117,13 @@ scene-or-faulty : (text : List ℕ) → IsCompact 128 text → Told text
 scene-or-faulty text is = by (object-or-not text is)
   where
     parts : (members : List Pair) → IsObject text members → IsScene members
-        → Decided (HasItems (value_unless_null (codes "elements") members)) → Decided (HasMembers (value_unless_null (codes "appState") members)) → Decided (HasMembers (value_unless_null (codes "files") members)) → Told text
+        → Decided (HasItems (value_unless_null (codes "elements") members))
+        → Decided (HasMembers (value_unless_null (codes "appState") members))
+        → Decided (HasMembers (value_unless_null (codes "files") members)) → Told text
     parts members object kind (inr none) settings entries = inr (Elements, (members, object, kind, none))
     parts members object kind (inl items) (inr none) entries = inr (AppState, (members, object, kind, items, none))
-    parts members object kind (inl items) (inl settings) (inr none) = inr (Files, (members, object, kind, items, settings, none))
+    parts members object kind (inl items) (inl settings) (inr none) =
+        inr (Files, (members, object, kind, items, settings, none))
     parts members object kind (inl (values, items)) (inl (settings, state)) (inl (entries, table)) =
         elim (read-or-faulty values (items-compact (value_unless_null (codes "elements") members) values items)) [
           | inl (elements, read) ↦
@@ -127,21 +142,30 @@ scene-or-faulty text is = by (object-or-not text is)
                   are_loaded = refl;
                 },
               )
-          | inr (place, fault, faulty) ↦ inr (Element place fault, (members, object, kind, (values, items, faulty), (settings, state), (entries, table)))
+          | inr (place, fault, faulty) ↦ inr (
+            Element place fault,
+            (members, object, kind, (values, items, faulty), (settings, state), (entries, table)),
+          )
         ]
 
-    by : ((members : List Pair) × AreMembers 127 members × (text ≡ object_text members)) ⊎ ((members : List Pair) → text ≢ object_text members) → Told text
+    by : ((members : List Pair) × AreMembers 127 members × (text ≡ object_text members))
+        ⊎ ((members : List Pair) → text ≢ object_text members) → Told text
     by (inr none) = inr (NotObject, λ members object. none members object.spelled)
     by (inl (members, are, e)) =
         let object : IsObject text members = record { are_members = are; spelled = e } in
-        elim (is-text (value_at (codes "type") members) (codes "excalidraw") (fits-in 127 members (lit≤ tt) are (codes "type"))) [
+        elim (is-text (value_at (codes "type") members) (codes "excalidraw")
+        (fits-in 127 members (lit≤ tt) are (codes "type"))) [
           | inr none ↦ inr (NotScene, (members, object, none))
-          | inl kind ↦ parts members object kind (items-or-not (value_unless_null (codes "elements") members) (fits-value_unless_null (codes "elements") members are))
-              (members-or-not (value_unless_null (codes "appState") members) (fits-value_unless_null (codes "appState") members are))
-              (members-or-not (value_unless_null (codes "files") members) (fits-value_unless_null (codes "files") members are))
+          | inl kind ↦ parts members object kind (items-or-not (value_unless_null (codes "elements") members)
+              (fits-value_unless_null (codes "elements") members are))
+              (members-or-not (value_unless_null (codes "appState") members)
+              (fits-value_unless_null (codes "appState") members are))
+              (members-or-not (value_unless_null (codes "files") members)
+              (fits-value_unless_null (codes "files") members are))
         ]
 
-fault-at : (bytes : List ℕ) (at : ℕ) (text rest : List ℕ) (fault : SceneFault) → Stands (drop at bytes) text rest → IsSceneFault text fault → IsSceneFaultAt bytes at fault
+fault-at : (bytes : List ℕ) (at : ℕ) (text rest : List ℕ) (fault : SceneFault) → Stands (drop at bytes) text rest
+    → IsSceneFault text fault → IsSceneFaultAt bytes at fault
 fault-at bytes at text rest (Json fault) stands is = absurd is
 fault-at bytes at text rest NotObject stands is = (text, rest, stands, is)
 fault-at bytes at text rest NotScene stands is = (text, rest, stands, is)
@@ -157,17 +181,27 @@ pub record StandsAt (bytes : List ℕ) (at : ℕ) (scene : Scene) (end : ℕ) : 
   pub stands : IsSceneAt (drop at bytes) scene (drop end bytes)
 
 pub scene-or-fault : (bytes : List ℕ) (at : ℕ) → at ≤ length bytes
-    → ((scene : Scene) × (end : ℕ) × StandsAt bytes at scene end) ⊎ ((fault : SceneFault) × IsSceneFaultAt bytes at fault)
+    → ((scene : Scene) × (end : ℕ) × StandsAt bytes at scene end)
+    ⊎ ((fault : SceneFault) × IsSceneFaultAt bytes at fault)
 scene-or-fault bytes at within = elim (value-or-fault bytes at within) [
   | inr (fault, is) ↦ inr (Json fault, is)
   | inl (text, end, small, stands) ↦ elim (scene-or-faulty text (Value-compact stands.reads)) [
-    | inl (scene, is) ↦ inl (scene, end, record { behind = Stands-behind bytes text at end small stands; within = small; stands = record { text = text; stands = stands; says = is } })
+    | inl (scene, is) ↦ inl (
+      scene,
+      end,
+      record {
+        behind = Stands-behind bytes text at end small stands;
+        within = small;
+        stands = record { text = text; stands = stands; says = is };
+      },
+    )
     | inr (fault, is) ↦ inr (fault, fault-at bytes at text (drop end bytes) fault stands is)
   ]
 ]
 
 pub scene-law : (bytes : List ℕ) (at : ℕ) → at ≤ length bytes
-    → ((scene : Scene) × (end : ℕ) × (at < end) × (end ≤ length bytes) × IsSceneAt (drop at bytes) scene (drop end bytes))
+    → ((scene : Scene) × (end : ℕ) × (at < end) × (end ≤ length bytes)
+    × IsSceneAt (drop at bytes) scene (drop end bytes))
     ⊎ ((fault : SceneFault) × IsSceneFaultAt bytes at fault)
 scene-law bytes at within = elim (scene-or-fault bytes at within) [
   | inl (scene, end, s) ↦ inl (scene, end, s.behind, s.within, s.stands)

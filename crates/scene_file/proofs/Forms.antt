@@ -8,8 +8,10 @@ use Rattle.elem.specs.Forms.{IsObject}
 use Rattle.elem.proofs.CallerLemmas.{literal}
 use Rattle.scene_file.specs.Reading.{IsScene}
 
-pub is-object : (value : List ℕ) (members : List Pair) → value ≡ object_text members → AreMembers 127 members → IsObject value members
+pub is-object : (value : List ℕ) (members : List Pair) → value ≡ object_text members → AreMembers 127 members
+    → IsObject value members
 is-object value members spelled are = record { are_members = are; spelled = spelled }
 
-pub is-scene : (members : List Pair) → value_at (codes "type") members ≡ Some (quote (codes "excalidraw")) → IsScene members
+pub is-scene : (members : List Pair) → value_at (codes "type") members ≡ Some (quote (codes "excalidraw"))
+    → IsScene members
 is-scene members kind = (literal (codes "excalidraw") refl, kind)

@@ -22,12 +22,16 @@ pub record AreOrdered (members ordered : List Member) : Type 0 where
   pub same : AreSameMembers (pairs ordered) (pairs members)
   pub nest : EntriesNest 126 (pairs ordered)
 
-pub AreOrdered-from : (members ordered : List Member) → AreMembers 126 (pairs members) → IsPermutation members ordered → IsSortedBy is_lower ordered → AreOrdered members ordered
+pub AreOrdered-from : (members ordered : List Member) → AreMembers 126 (pairs members) → IsPermutation members ordered
+    → IsSortedBy is_lower ordered → AreOrdered members ordered
 AreOrdered-from members ordered are moved up =
     let pairs_moved = IsPermutation-map pair_of members ordered moved in
-    let values = All-permutation (λ (m : Member). IsCompact 126 m.value) members ordered moved (AreMembers-values 126 members are) in
+    let values = All-permutation (λ (m : Member). IsCompact 126 m.value) members ordered moved
+    (AreMembers-values 126 members are) in
     record {
-      rise = rising_from_sort ordered up (subst (IsDistinct bytes_eq) (names-pairs ordered) (distinct_moved (pairs members) (pairs ordered) pairs_moved are.distinct));
+      rise = rising_from_sort ordered up (subst (IsDistinct bytes_eq) (names-pairs ordered)
+          (distinct_moved (pairs members) (pairs ordered) pairs_moved are.distinct));
       same = λ name. sym (same_moved (pairs members) (pairs ordered) are.distinct pairs_moved name);
-      nest = recursion_from_All (λ (m : Pair). IsCompact 126 m.1) (pairs ordered) (All-map (λ (m : Pair). IsCompact 126 m.1) pair_of ordered values);
+      nest = recursion_from_All (λ (m : Pair). IsCompact 126 m.1) (pairs ordered)
+          (All-map (λ (m : Pair). IsCompact 126 m.1) pair_of ordered values);
     }

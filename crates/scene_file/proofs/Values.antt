@@ -11,7 +11,8 @@ pub fault-same : (A : Type 0) (a b : SceneFault) → stopped A (Fault a) ≡ sto
 fault-same A a b e = cc
 
 -- a fault of the value behind the offset
-pub behind : (bytes : List ℕ) (at : ℕ) (fault : SceneFault) (text rest : List ℕ) → Stands (drop at bytes) text rest → IsSceneFault text fault → IsSceneFaultAt bytes at fault
+pub behind : (bytes : List ℕ) (at : ℕ) (fault : SceneFault) (text rest : List ℕ) → Stands (drop at bytes) text rest
+    → IsSceneFault text fault → IsSceneFaultAt bytes at fault
 behind bytes at (Json found) text rest stands is = absurd is
 behind bytes at NotObject text rest stands is = (text, rest, stands, is)
 behind bytes at NotScene text rest stands is = (text, rest, stands, is)

@@ -12,4 +12,5 @@ scene_fault_words NotScene = codes "type"
 scene_fault_words Elements = codes "elements"
 scene_fault_words AppState = codes "appState"
 scene_fault_words Files = codes "files"
-scene_fault_words (Element place fault) = codes "element " ++ (decimal place ++ (codes ": " ++ fault_word fault))
+scene_fault_words (Element place fault) =
+    codes "element " ++ (decimal place ++ (codes ": " ++ fault_word fault))

@@ -1,5 +1,5 @@
--- What a scene has beside its elements, and what the heads of several scenes are joined to. That the least text counts
--- is this project's own.
+-- What a scene has beside its elements, and what the heads of several scenes are joined to. That
+-- the least text counts is this project's own.
 use Rattle.std.specs.Prelude.{◌≡◌, ◌↔◌, ℕ, List, [], ◌∷◌, false, Option, Some, None, Contains, flat_map, if◌then◌else◌}
 use Rattle.json_text.specs.Characters.{quote}
 use Rattle.json_text.specs.Compact.{Member as Pair}
@@ -9,14 +9,15 @@ use Rattle.scene_json.specs.Named.{HaveRisingNames}
 use Rattle.frac_keys.specs.Keys.{bytes_less}
 use Rattle.file_table.specs.Table.{AreLeastEntries, EntriesNest}
 
--- A head as contracts see it: the source, the settings in the order of their names, and the pairs of id and entry of
--- the files, in the order of the ids.
+-- A head as contracts see it: the source, the settings in the order of their names, and the pairs
+-- of id and entry of the files, in the order of the ids.
 pub record Heading : Type 0 where
   pub source : Option (List ℕ)
   pub app_state : List Member
   pub files : List Pair
 
--- The names of settings rise, and each value nests at most 126, so that a scene with it nests at most 128.
+-- The names of settings rise, and each value nests at most 126, so that a scene with it nests at
+-- most 128.
 pub record IsHeading (head : Heading) : Type 0 where
   pub ordered : HaveRisingNames (pairs head.app_state)
   pub nest : EntriesNest 126 (pairs head.app_state)
@@ -25,7 +26,8 @@ pub record IsHeading (head : Heading) : Type 0 where
 abbrev pub lesser_source : Option (List ℕ) → Option (List ℕ) → Option (List ℕ)
 lesser_source None other = other
 lesser_source (Some source) None = Some source
-lesser_source (Some source) (Some other) = if bytes_less (quote other) (quote source) then Some other else Some source
+lesser_source (Some source) (Some other) =
+    if bytes_less (quote other) (quote source) then Some other else Some source
 
 -- the least source of the heads that have one
 abbrev pub least_source : List Heading → Option (List ℕ)
@@ -39,8 +41,8 @@ settings_of heads = flat_map (λ (head : Heading). pairs head.app_state) heads
 abbrev pub files_of : List Heading → List Pair
 files_of heads = flat_map (λ (head : Heading). head.files) heads
 
--- The source is the least of the heads', and of each name and each id the least setting and the least file's entry
--- counts.
+-- The source is the least of the heads', and of each name and each id the least setting and the
+-- least file's entry counts.
 pub record IsJoinedHead (heads : List Heading) (head : Heading) : Type 0 where
   pub source : head.source ≡ least_source heads
   pub app_state : AreLeastEntries (settings_of heads) (pairs head.app_state)

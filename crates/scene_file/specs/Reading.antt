@@ -1,5 +1,5 @@
--- What a scene's text says, and its first fault. After Excalidraw's JSON schema; which forms are accepted, and how
--- missing keys are filled, is this project's own.
+-- What a scene's text says, and its first fault. After Excalidraw's JSON schema; which forms are
+-- accepted, and how missing keys are filled, is this project's own.
 use Rattle.std.specs.Prelude.{◌≡◌, ℕ, List, [], Option, Some, None, drop, map, codes, bytes_eq, is_some, if◌then◌else◌}
 use Rattle.std.specs.List.{AllByRecursion, list_all}
 use Rattle.json_text.specs.Compact.{Member as Pair, array_text}
@@ -42,8 +42,8 @@ IsSource found (Some source) = IsText found source
 abbrev pub IsScene : List Pair → Type 0
 IsScene members = IsText (value_at (codes "type") members) (codes "excalidraw")
 
--- the elements as they are loaded: their keys are kept where each has one, else the keys of all are repaired in the
--- array's order
+-- the elements as they are loaded: their keys are kept where each has one, else the keys of all are
+-- repaired in the array's order
 abbrev pub loaded : List ElementValue → List ElementValue
 loaded elements =
     if list_all (λ (e : ElementValue). is_some e.index) elements then elements else keyed elements
@@ -73,18 +73,21 @@ pub record IsSceneOf (text : List ℕ) (scene : Scene) : Type 0 where
   pub read : AreRead values elements
   pub are_loaded : scene.elements ≡ loaded elements
 
--- The first fault of a compact text that is no scene's, in the order in which the faults are listed.
+-- The first fault of a compact text that is no scene's, in the order in which the faults are
+-- listed.
 abbrev pub IsSceneFault : List ℕ → SceneFault → Type 0
 IsSceneFault text (Json fault) = ⊥
 IsSceneFault text NotObject = (members : List Pair) → IsObject text members → ⊥
 IsSceneFault text NotScene = (members : List Pair) × IsObject text members × (IsScene members → ⊥)
 IsSceneFault text Elements =
     (members : List Pair) × IsObject text members × IsScene members
-    × ((values : List (List ℕ)) → HasItems (value_unless_null (codes "elements") members) values → ⊥)
+    × ((values : List (List ℕ)) → HasItems (value_unless_null (codes "elements") members) values
+    → ⊥)
 IsSceneFault text AppState =
     (members : List Pair) × IsObject text members × IsScene members
     × ((values : List (List ℕ)) × HasItems (value_unless_null (codes "elements") members) values)
-    × ((settings : List Pair) → HasMembers (value_unless_null (codes "appState") members) settings → ⊥)
+    × ((settings : List Pair) → HasMembers (value_unless_null (codes "appState") members) settings
+    → ⊥)
 IsSceneFault text Files =
     (members : List Pair) × IsObject text members × IsScene members
     × ((values : List (List ℕ)) × HasItems (value_unless_null (codes "elements") members) values)
@@ -92,7 +95,8 @@ IsSceneFault text Files =
     × ((entries : List Pair) → HasMembers (value_unless_null (codes "files") members) entries → ⊥)
 IsSceneFault text (Element place fault) =
     (members : List Pair) × IsObject text members × IsScene members
-    × ((values : List (List ℕ)) × HasItems (value_unless_null (codes "elements") members) values × IsFirstFaulty values place fault)
+    × ((values : List (List ℕ)) × HasItems (value_unless_null (codes "elements") members) values
+    × IsFirstFaulty values place fault)
     × ((settings : List Pair) × HasMembers (value_unless_null (codes "appState") members) settings)
     × ((entries : List Pair) × HasMembers (value_unless_null (codes "files") members) entries)
 
@@ -102,7 +106,9 @@ pub record IsSceneAt (bytes : List ℕ) (scene : Scene) (rest : List ℕ) : Type
   pub stands : Stands bytes text rest
   pub says : IsSceneOf text scene
 
--- The text behind the offset has this first fault: its JSON form has, or it has none there and is no scene.
+-- The text behind the offset has this first fault: its JSON form has, or it has none there and is
+-- no scene.
 abbrev pub IsSceneFaultAt : List ℕ → ℕ → SceneFault → Type 0
 IsSceneFaultAt bytes at (Json fault) = IsFirstFault bytes at fault
-IsSceneFaultAt bytes at fault = (text rest : List ℕ) × Stands (drop at bytes) text rest × IsSceneFault text fault
+IsSceneFaultAt bytes at fault =
+    (text rest : List ℕ) × Stands (drop at bytes) text rest × IsSceneFault text fault

@@ -1,5 +1,5 @@
--- The text of a scene, and that of all that is stored. After Excalidraw's JSON schema; that a scene has the files alone
--- that its elements name is this project's own.
+-- The text of a scene, and that of all that is stored. After Excalidraw's JSON schema; that a scene
+-- has the files alone that its elements name is this project's own.
 use Rattle.std.specs.Prelude.{ℕ, List, [], ◌∷◌, map, codes, decimal}
 use Rattle.json_text.specs.Characters.{quote}
 use Rattle.json_text.specs.Compact.{Member as Pair, array_text, object_text}
@@ -12,13 +12,16 @@ use Rattle.scene_file.specs.Heads.{Heading}
 -- the members of the text of these elements, with these files, under this head
 abbrev pub scene_members : Heading → List ElementValue → List Pair → List Pair
 scene_members head elements files =
-    (codes "type", quote (codes "excalidraw")) ∷ (codes "version", decimal 2) ∷ (codes "source", text_or_null head.source)
+    (codes "type", quote (codes "excalidraw")) ∷ (codes "version", decimal 2)
+    ∷ (codes "source", text_or_null head.source)
     ∷ (codes "elements", array_text (map element_text elements))
-    ∷ (codes "appState", object_text (pairs head.app_state)) ∷ (codes "files", object_text files) ∷ []
+    ∷ (codes "appState", object_text (pairs head.app_state)) ∷ (codes "files", object_text files)
+    ∷ []
 
 -- the text of the scene of these elements: with the files that they name
 unfoldable pub scene_text : Heading → List ElementValue → List ℕ
-scene_text head elements = object_text (scene_members head elements (referred_files head.files elements))
+scene_text head elements =
+    object_text (scene_members head elements (referred_files head.files elements))
 
 -- the text of all that is stored: with all files
 unfoldable pub state_text : Heading → List ElementValue → List ℕ

@@ -6,6 +6,7 @@ use Rattle.scene_file.specs.Layouts.{IsWrittenIn}
 use Rattle.scene_file.specs.Scenes.{scene_text}
 use Rattle.scene_file.specs.declared.layout.Layout.{Layout}
 
--- This is how the text of the scene of these elements under this head is written. This project's own.
+-- This is how the text of the scene of these elements under this head is written. This project's
+-- own.
 abbrev pub IsSceneText : Layout → Heading → List ElementValue → List ℕ → Type 0
 IsSceneText layout head elements text = IsWrittenIn layout (scene_text head elements) text

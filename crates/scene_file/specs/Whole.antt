@@ -1,5 +1,5 @@
--- What every scene has that is read, and every head and element that is made of such scenes: so their texts are read
--- back. This project's own.
+-- What every scene has that is read, and every head and element that is made of such scenes: so
+-- their texts are read back. This project's own.
 use Rattle.std.specs.Prelude.{◌≡◌, true, List, All, IfSome, is_some, filter, bytes_eq}
 use Rattle.std.specs.List.{list_all, list_any}
 use Rattle.std.specs.Str.{IsUtf8}
@@ -13,7 +13,8 @@ use Rattle.file_table.specs.References.{references}
 use Rattle.scene_file.specs.Heads.{Heading}
 use Rattle.scene_file.specs.declared.scene.Scene.{Scene}
 
--- The source is a text; settings and files are the members of objects in a scene, in the order of their names.
+-- The source is a text; settings and files are the members of objects in a scene, in the order of
+-- their names.
 pub record IsWholeHead (head : Heading) : Type 0 where
   pub source : IfSome head.source IsUtf8
   pub settings : AreMembers 126 (pairs head.app_state)

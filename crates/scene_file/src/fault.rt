@@ -23,7 +23,8 @@ pub enum SceneFault {
     AppState,
     /// `files` is neither null nor an object.
     Files,
-    /// The element at this place of the array, counted from 0, is the first with a fault, and has this one.
+    /// The element at this place of the array, counted from 0, is the first with a fault, and has
+    /// this one.
     Element(u64, ElemFault),
 }
 

@@ -41,7 +41,12 @@ impl Model for Head {
 
     ghost view = { λ h. record { source = h.source; app_state = h.app_state; files = h.files } };
 
-    ghost invariant = { λ h. IsHeading (record { source = h.source; app_state = h.app_state; files = h.files }) };
+    ghost invariant = { λ h. IsHeading (record {
+      source = h.source;
+      app_state = h.app_state;
+      files =
+          h.files;
+    }) };
 }
 
 impl Head {
@@ -93,9 +98,11 @@ fn lesser_source(
     lesser.as_ref().map(Text::try_clone).transpose()
 }
 
-/// Whether the first of two sources is there, and its string is less by its bytes than that of the second, if that is.
+/// Whether the first of two sources is there, and its string is less by its bytes than that of the
+/// second, if that is.
 fn is_lesser(alloc: Global, source: &Option<Text>, other: &Option<Text>) -> Result<bool, AllocError>
-    ensures { IfOk result (λ lesser. lesser_source other.now source.now ≡ (if lesser then source.now else other.now)) }
+    ensures { IfOk result (λ lesser. lesser_source other.now source.now
+        ≡ (if lesser then source.now else other.now)) }
 {
     match (source, other) {
         (None, _) => Ok(false),
@@ -145,8 +152,10 @@ pub(crate) fn head_of(
     entries: List<Member>,
 ) -> Result<Head, AllocError>
     requires are_members { AreMembers 127 (pairs members.now) }
-    requires settings { HasMembers (value_unless_null (codes "appState") (pairs members.now)) (pairs settings) }
-    requires entries { HasMembers (value_unless_null (codes "files") (pairs members.now)) (pairs entries) }
+    requires settings { HasMembers (value_unless_null (codes "appState") (pairs members.now))
+        (pairs settings) }
+    requires entries { HasMembers (value_unless_null (codes "files") (pairs members.now))
+        (pairs entries) }
     ensures { IfOk result (IsHeadOf (pairs members.now)) }
 {
     let source = text_named(alloc, members, "source")?;

@@ -15,11 +15,12 @@ ghost use Rattle.scene_file.specs.declared.layout.Layout.{Layout};
 ghost use Rattle.scene_file.specs.declared.scene.Scene.{Scene};
 ghost use Rattle.scene_file.specs.declared.fault.SceneFault.{SceneFault};
 
-/// At most one scene stands at the front of a text: the scene and what follows it are determined. None stands in white
-/// space.
+/// At most one scene stands at the front of a text: the scene and what follows it are determined.
+/// None stands in white space.
 pub fn scene_is_unique()
     ensures once { (bytes : List ℕ) (scene other : Scene) (rest next : List ℕ)
-        → IsSceneAt bytes scene rest → IsSceneAt bytes other next → (scene ≡ other) × (rest ≡ next) }
+        → IsSceneAt bytes scene rest → IsSceneAt bytes other next → (scene ≡ other)
+        × (rest ≡ next) }
     ensures none { (bytes : List ℕ) (scene : Scene) (rest : List ℕ)
         → IsSceneAt bytes scene rest → is_blank bytes ≡ true → ⊥ }
 {}
@@ -54,10 +55,12 @@ pub fn joined_head_is_unique()
 /// The joined head depends on the set of heads alone: their order and repeats don't count.
 pub fn joined_head_is_of_the_set()
     ensures { (heads others : List Heading) (head : Heading)
-        → All IsWholeHead heads → HaveSameHeads heads others → IsJoinedHead heads head → IsJoinedHead others head }
+        → All IsWholeHead heads → HaveSameHeads heads others → IsJoinedHead heads head
+        → IsJoinedHead others head }
 {}
 
-/// The source of a joined head is that of a head, and none is less; there is none exactly where no head has one.
+/// The source of a joined head is that of a head, and none is less; there is none exactly where no
+/// head has one.
 pub fn least_source_is_least()
     ensures least { (heads : List Heading) (source : List ℕ) → least_source heads ≡ Some source
         → IsLeastSource heads source }
@@ -68,29 +71,38 @@ pub fn least_source_is_least()
 /// A compact text of a scene is written in each layout.
 pub fn compact_scene_is_written()
     ensures { (layout : Layout) (head : Heading) (elements : List ElementValue)
-        → IsCompact 128 (scene_text head elements) → (written : List ℕ) × IsSceneText layout head elements written }
+        → IsCompact 128 (scene_text head elements) → (written : List ℕ)
+        × IsSceneText layout head elements written }
 {}
 
-/// A scene that is read is whole, and so is what is made of whole scenes: their joined head, and what is stored of
-/// their elements.
+/// A scene that is read is whole, and so is what is made of whole scenes: their joined head, and
+/// what is stored of their elements.
 pub fn scenes_are_whole()
-    ensures read { (bytes : List ℕ) (scene : Scene) (rest : List ℕ) → IsSceneAt bytes scene rest → IsWholeScene scene }
+    ensures read { (bytes : List ℕ) (scene : Scene) (rest : List ℕ) → IsSceneAt bytes scene rest
+        → IsWholeScene scene }
     ensures joined { (heads : List Heading) (head : Heading)
         → All IsWholeHead heads → IsJoinedHead heads head → IsWholeHead head }
     ensures stored { (updates elements : List ElementValue)
         → All IsWholeElement updates → AreStored updates elements → All IsWholeElement elements }
 {}
 
-/// The text of a whole scene, in whatever layout and whatever follows it, is read as that scene: with its elements, and
-/// under its head with those of the files that the elements name, which have the same text. The text of all that is
-/// stored is read as that, under its whole head.
+/// The text of a whole scene, in whatever layout and whatever follows it, is read as that scene:
+/// with its elements, and under its head with those of the files that the elements name, which have
+/// the same text. The text of all that is stored is read as that, under its whole head.
 pub fn texts_are_read_back()
-    ensures scene { (layout : Layout) (head : Heading) (elements : List ElementValue) (written rest : List ℕ)
-        → IsWholeHead head → All IsWholeElement elements → HaveKeys elements → IsSceneText layout head elements written
-        → IsSceneAt (written ++ rest) (record { head = with_named_files head elements; elements = elements }) rest }
+    ensures scene { (layout : Layout) (head : Heading) (elements : List ElementValue)
+        (written rest : List ℕ)
+        → IsWholeHead head → All IsWholeElement elements → HaveKeys elements
+        → IsSceneText layout head elements written
+        → IsSceneAt (written ++ rest) (record {
+          head = with_named_files head elements;
+          elements =
+              elements;
+        }) rest }
     ensures same { (head : Heading) (elements : List ElementValue)
         → scene_text (with_named_files head elements) elements ≡ scene_text head elements }
     ensures state { (head : Heading) (stored : List ElementValue) (rest : List ℕ)
         → IsWholeHead head → All IsWholeElement stored → HaveKeys stored
-        → IsSceneAt (state_text head stored ++ rest) (record { head = head; elements = stored }) rest }
+        → IsSceneAt (state_text head stored ++ rest) (record { head = head; elements = stored })
+        rest }
 {}

@@ -1,4 +1,5 @@
-//! Scene files: scenes are read with their heads, heads are joined, and elements are printed under a head.
+//! Scene files: scenes are read with their heads, heads are joined, and elements are printed under
+//! a head.
 #![tactic(auto)]
 
 mod fault;

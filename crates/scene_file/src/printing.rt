@@ -28,8 +28,8 @@ use std::alloc::{AllocError, Global};
 /// No element's text has fewer bytes.
 const LEAST_TEXT: usize = 128;
 
-/// The text of the scene of these elements, under this head, in this layout; no line feed ends it. Fails only for want
-/// of memory.
+/// The text of the scene of these elements, under this head, in this layout; no line feed ends it.
+/// Fails only for want of memory.
 pub fn elements_text(
     alloc: Global,
     head: &Head,
@@ -51,8 +51,8 @@ pub fn elements_text(
     }
 }
 
-/// The compact text of all that is stored, deleted elements too, as stored, under this head and with all its files.
-/// Fails only for want of memory.
+/// The compact text of all that is stored, deleted elements too, as stored, under this head and
+/// with all its files. Fails only for want of memory.
 pub fn state_text(alloc: Global, head: &Head, store: &Store) -> Result<Bytes, AllocError>
     ensures exact { IfOk result (λ text. text ≡ scenes.state_text head.now store.now.elements) }
     ensures ordered { are_rising (ids_of store.now.elements) ≡ true }
@@ -67,7 +67,8 @@ pub fn state_text(alloc: Global, head: &Head, store: &Store) -> Result<Bytes, Al
 
 /// Appends the compact text of the scene of these elements.
 fn push_scene(out: &mut Vec<u8>, head: &Head, elements: &[Element]) -> Result<(), AllocError>
-    ensures text { OnOk result (out.new.items ≡ out.old.items ++ scenes.scene_text head.now elements.now) }
+    ensures text { OnOk result (out.new.items ≡ out.old.items
+        ++ scenes.scene_text head.now elements.now) }
     ensures nests { OnOk result (IsCompact 128 (scenes.scene_text head.now elements.now)) }
 {
     let files = head.files.referred(elements)?;
@@ -77,8 +78,8 @@ fn push_scene(out: &mut Vec<u8>, head: &Head, elements: &[Element]) -> Result<()
     Ok(())
 }
 
-/// Writes the text of the scene of these elements, each member and item on a line of its own. Beside it stands the text
-/// of one element at a time.
+/// Writes the text of the scene of these elements, each member and item on a line of its own.
+/// Beside it stands the text of one element at a time.
 fn push_scene_lines(out: &mut Vec<u8>, head: &Head, elements: &[Element]) -> Result<(), AllocError>
     requires { out.old.items ≡ [] }
     ensures { OnOk result (IsLaidOut 0 (scenes.scene_text head.now elements.now) out.new.items) }
@@ -94,7 +95,8 @@ fn push_scene_lines(out: &mut Vec<u8>, head: &Head, elements: &[Element]) -> Res
     lines.push(out, piece.as_slice())
 }
 
-/// Appends the layout of the texts of elements, with commas between them. Each text stands in the piece for a time.
+/// Appends the layout of the texts of elements, with commas between them. Each text stands in the
+/// piece for a time.
 fn push_element_lines(
     lines: &mut Lines,
     out: &mut Vec<u8>,
@@ -102,7 +104,8 @@ fn push_element_lines(
     elements: &[Element],
 ) -> Result<(), AllocError>
     ensures laid_out { OnOk result ((text : Items ℕ) → IsLaidOutSoFar lines.old text out.old.items
-        → IsLaidOutSoFar lines.new (text ++ join_with_byte 44 (map element_text elements.now)) out.new.items) }
+        → IsLaidOutSoFar lines.new (text ++ join_with_byte 44 (map element_text elements.now))
+        out.new.items) }
     ensures nest { OnOk result (All (λ e. IsCompact 120 (element_text e)) elements.now) }
 {
     for (i, e) in elements.iter().enumerate() {
@@ -177,7 +180,8 @@ fn push_object(out: &mut Vec<u8>, members: &List<Member>) -> Result<(), AllocErr
 
 /// Appends the texts of all stored elements, in the order of their ids, with commas between them.
 fn push_stored(out: &mut Vec<u8>, store: &Store) -> Result<(), AllocError>
-    ensures { OnOk result (out.new.items ≡ out.old.items ++ join_with_byte 44 (map element_text store.now.elements)) }
+    ensures { OnOk result (out.new.items ≡ out.old.items
+        ++ join_with_byte 44 (map element_text store.now.elements)) }
 {
     for i in 0..store.len() {
         if let Some(e) = store.at(i) {

@@ -24,8 +24,8 @@ use json_text::{Member, Raw};
 use scene_json::{has_value, is_null, members, members_to, shaped, value_named};
 use std::alloc::{AllocError, Global};
 
-/// The scene that stands at an offset, behind white space and in whatever spelling, and the offset after it; or the
-/// first fault there.
+/// The scene that stands at an offset, behind white space and in whatever spelling, and the offset
+/// after it; or the first fault there.
 pub fn read_scene(
     alloc: Global,
     bytes: &[u8],
@@ -33,8 +33,10 @@ pub fn read_scene(
 ) -> Result<(Scene, usize), Stop<SceneFault>>
     requires { at ≤ length bytes.now }
     ensures within { IfOk result (λ found. (at < found.1) × (found.1 ≤ length bytes.now)) }
-    ensures scene { IfOk result (λ found. IsSceneAt (drop at bytes.now) found.0 (drop found.1 bytes.now)) }
-    ensures fault { (fault : SceneFault) → result ≡ Err (Stop.Fault fault) → IsSceneFaultAt bytes.now at fault }
+    ensures scene { IfOk result (λ found. IsSceneAt (drop at bytes.now) found.0
+        (drop found.1 bytes.now)) }
+    ensures fault { (fault : SceneFault) → result ≡ Err (Stop.Fault fault)
+        → IsSceneFaultAt bytes.now at fault }
 {
     let (value, end) = match scan(alloc, bytes, at) {
         Ok(found) => found,
@@ -47,7 +49,8 @@ pub fn read_scene(
 /// The scene that a value is, or its first fault.
 pub fn scene_of(alloc: Global, value: &Raw) -> Result<Scene, Stop<SceneFault>>
     ensures scene { IfOk result (IsSceneOf value.now) }
-    ensures fault { (fault : SceneFault) → result ≡ Err (Stop.Fault fault) → IsSceneFault value.now fault }
+    ensures fault { (fault : SceneFault) → result ≡ Err (Stop.Fault fault)
+        → IsSceneFault value.now fault }
 {
     let Some((found, given)) = taken_apart(alloc, value)? else {
         return Err(Stop::Fault(SceneFault::NotObject));
@@ -76,15 +79,16 @@ pub fn scene_of(alloc: Global, value: &Raw) -> Result<Scene, Stop<SceneFault>>
     })
 }
 
-/// The members of a scene's object, but for an array of elements, and what came of the elements: they are read as they
-/// stand, while the object is taken apart. `None` where it is no object, and in place of the elements where they are in
-/// no array.
+/// The members of a scene's object, but for an array of elements, and what came of the elements:
+/// they are read as they stand, while the object is taken apart. `None` where it is no object, and
+/// in place of the elements where they are in no array.
 fn taken_apart(
     alloc: Global,
     value: &Raw,
 ) -> Result<Option<(List<Member>, Option<Result<List<Element>, FaultyElement>>)>, AllocError>
     ensures shape { result ≡ Ok None → (members : Items Pair) → IsObject value.now members → ⊥ }
-    ensures taken { IfOk result (λ found. IfSome found (λ taken. IsTaken value.now (pairs taken.0) taken.1)) }
+    ensures taken { IfOk result (λ found. IfSome found
+        (λ taken. IsTaken value.now (pairs taken.0) taken.1)) }
 {
     let Some((before, walk)) = shaped(members_to(alloc, value, "elements"))? else {
         return Ok(None);
@@ -104,8 +108,10 @@ fn taken_apart(
 fn kept_aside(
     read: Result<List<Element>, Stop<FaultyElement>>,
 ) -> Result<Result<List<Element>, FaultyElement>, AllocError>
-    ensures read { (elements : Items ElementValue) → result ≡ Ok (Ok elements) → read ≡ Ok elements }
-    ensures fault { (faulty : FaultyElement) → result ≡ Ok (Err faulty) → read ≡ Err (Stop.Fault faulty) }
+    ensures read { (elements : Items ElementValue) → result ≡ Ok (Ok elements)
+        → read ≡ Ok elements }
+    ensures fault { (faulty : FaultyElement) → result ≡ Ok (Err faulty)
+        → read ≡ Err (Stop.Fault faulty) }
 {
     match read {
         Ok(elements) => Ok(Ok(elements)),
@@ -124,14 +130,16 @@ fn given<'a>(members: &'a List<Member>, name: &str) -> Option<&'a Raw>
     }
 }
 
-/// The members of the object that is given under a name, none where it is missing. `None` where it is no object.
+/// The members of the object that is given under a name, none where it is missing. `None` where it
+/// is no object.
 fn members_given(
     alloc: Global,
     from: &List<Member>,
     name: &str,
 ) -> Result<Option<List<Member>>, AllocError>
     ensures { IfOk result (λ found. MatchOption found
-        ((others : Items Pair) → HasMembers (value_unless_null name.now (pairs from.now)) others → ⊥)
+        ((others : Items Pair) → HasMembers (value_unless_null name.now (pairs from.now)) others
+        → ⊥)
         (λ some. HasMembers (value_unless_null name.now (pairs from.now)) (pairs some))) }
 {
     match given(from, name) {
@@ -140,7 +148,8 @@ fn members_given(
     }
 }
 
-/// The elements with their keys, where each has one, else with the keys of all repaired in this order.
+/// The elements with their keys, where each has one, else with the keys of all repaired in this
+/// order.
 fn loaded(alloc: Global, elements: Vec<Element>) -> Result<Vec<Element>, AllocError>
     ensures { IfOk result (λ new. new.items ≡ loaded elements.items) }
 {

@@ -20,15 +20,19 @@ plain-behind : (xs bs : List ℕ) → list_all is_plain xs ≡ true → behind_s
 plain-behind [] bs h = refl
 plain-behind (x ∷ xs) bs h = grind (arith, nat_tests, plain-behind xs bs)
 
-piece-behind : (p : Piece) (bs : List ℕ) → IsPiece p → behind_string false (piece_spelling p ++ bs) ≡ behind_string false bs
+piece-behind : (p : Piece) (bs : List ℕ) → IsPiece p → behind_string false (piece_spelling p ++ bs)
+    ≡ behind_string false bs
 piece-behind (bare c) bs h = plain-behind (encode_utf8 c) bs (plain-bare c h.2 h.3)
 piece-behind (letter b) bs h = grind (arith, nat_tests)
-piece-behind (unit a b c d) bs h = plain-behind (a ∷ b ∷ c ∷ d ∷ []) bs (list_all-each is_hex is_plain hex-plain (a ∷ b ∷ c ∷ d ∷ []) h)
+piece-behind (unit a b c d) bs h =
+    plain-behind (a ∷ b ∷ c ∷ d ∷ []) bs (list_all-each is_hex is_plain hex-plain (a ∷ b ∷ c ∷ d ∷ []) h)
 
 -- behind a string of good pieces stands what follows it
-pub pieces-behind : (ps : List Piece) (bs : List ℕ) → AllByRecursion IsPiece ps → behind_string false (flat_map piece_spelling ps ++ 34 ∷ bs) ≡ bs
+pub pieces-behind : (ps : List Piece) (bs : List ℕ) → AllByRecursion IsPiece ps
+    → behind_string false (flat_map piece_spelling ps ++ 34 ∷ bs) ≡ bs
 pieces-behind [] bs h = refl
-pieces-behind (p ∷ ps) bs h = simp append_assoc (grind (arith, piece-behind p (flat_map piece_spelling ps ++ 34 ∷ bs), pieces-behind ps bs))
+pieces-behind (p ∷ ps) bs h =
+    simp append_assoc (grind (arith, piece-behind p (flat_map piece_spelling ps ++ 34 ∷ bs), pieces-behind ps bs))
 
 -- a run of plain bytes at the front, which ends at the string's end or at an escape
 pub behind-run : (bs : List ℕ) → behind_string false (drop (prefix_len is_plain bs) bs) ≡ behind_string false bs
@@ -39,11 +43,13 @@ behind-run (b ∷ bs) = grind (arith, nat_tests, drop-drop (prefix_len is_plain 
 passed : (bs : List ℕ) → behind_string false (drop 1 bs) ≡ behind_string false (92 ∷ bs)
 passed bs = grind (arith, nat_tests)
 
--- At the end of a run what stands behind the string is still to come: nothing where the bytes break off, or what follows
--- its closing quotation mark, or what stands behind an escape.
-module _ (bytes : List ℕ) (at end : ℕ) (is : end ≡ at + prefix_len is_plain (drop at bytes)) (same : behind_string false (drop at bytes) ≡ behind_string false bytes) where
+-- At the end of a run what stands behind the string is still to come: nothing where the bytes break off, or what
+-- follows its closing quotation mark, or what stands behind an escape.
+module _ (bytes : List ℕ) (at end : ℕ) (is : end ≡ at + prefix_len is_plain (drop at bytes))
+    (same : behind_string false (drop at bytes) ≡ behind_string false bytes) where
   stopped : behind_string false (drop end bytes) ≡ behind_string false bytes
-  stopped = grind (arith, drop-drop (prefix_len is_plain (drop at bytes)) at bytes, behind-run (drop at bytes), is, same)
+  stopped =
+      grind (arith, drop-drop (prefix_len is_plain (drop at bytes)) at bytes, behind-run (drop at bytes), is, same)
 
   pub string_broken : length bytes ≡ end → [] ≡ behind_string false bytes
   string_broken past = grind (arith, drop_of_length-le bytes, stopped)
@@ -51,7 +57,19 @@ module _ (bytes : List ℕ) (at end : ℕ) (is : end ≡ at + prefix_len is_plai
   pub string_closed : end < length bytes → get_or bytes end 0 ≡ 34 → drop (end + 1) bytes ≡ behind_string false bytes
   string_closed within mark = grind (arith, front bytes end within mark, stopped)
 
-  pub string_escaped : (next : ℕ) → end < length bytes → at ≤ length bytes → get_or bytes end 0 ≢ 34 → next ≡ min (length bytes) (end + 2) → behind_string false (drop next bytes) ≡ behind_string false bytes
+  pub string_escaped : (next : ℕ) → end < length bytes → at ≤ length bytes → get_or bytes end 0 ≢ 34
+      → next ≡ min (length bytes) (end + 2) → behind_string false (drop next bytes) ≡ behind_string false bytes
   string_escaped next within low other e =
       let inside = prefix_len_stops is_plain (drop at bytes) 0 (omega (arith, length-drop at bytes)) in
-      grind (arith, nat_tests, is, inside, get_or-drop at bytes, drop-drop 1 (end + 1) bytes, passed (drop (end + 1) bytes), front bytes end {b = 92} within, stopped, drop_of_length-le)
+      grind (
+        arith,
+        nat_tests,
+        is,
+        inside,
+        get_or-drop at bytes,
+        drop-drop 1 (end + 1) bytes,
+        passed (drop (end + 1) bytes),
+        front bytes end {b = 92} within,
+        stopped,
+        drop_of_length-le,
+      )

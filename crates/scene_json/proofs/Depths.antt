@@ -23,11 +23,13 @@ deepest (inside escaped) level most (b ∷ bs) =
     deepest (if b == 34 && not escaped then outside else inside (b == 92 && not escaped)) level most bs
 
 -- a string changes nothing
-inside-string : (escaped : Bool) (level most : ℕ) (bs : List ℕ) → deepest (inside escaped) level most bs ≡ deepest outside level most (behind_string escaped bs)
+inside-string : (escaped : Bool) (level most : ℕ) (bs : List ℕ)
+    → deepest (inside escaped) level most bs ≡ deepest outside level most (behind_string escaped bs)
 inside-string escaped level most [] = refl
 inside-string escaped level most (b ∷ bs) = grind (arith, inside-string (b == 92 && not escaped) level most bs)
 
-pub quote-step : (level most : ℕ) (bs : List ℕ) → level ≤ most → deepest outside level most (34 ∷ bs) ≡ deepest outside level most (behind_string false bs)
+pub quote-step : (level most : ℕ) (bs : List ℕ) → level ≤ most
+    → deepest outside level most (34 ∷ bs) ≡ deepest outside level most (behind_string false bs)
 quote-step level most bs h = grind (arith, inside-string false level (max most level) bs)
 
 -- the deepest place of a value's text
@@ -40,18 +42,32 @@ deepest-depth t good =
       parts = λ level most bs h. grind (arith, nat_tests);
       others = λ b level most bs inert h. grind (arith, nat_tests);
     } in
-    ap (deepest outside 0 0) (sym (append-nil (spelling t))) ∙ tree-steps pass t 0 0 (depth t) [] good (omega arith) (omega arith)
+    ap (deepest outside 0 0) (sym (append-nil (spelling t)))
+    ∙ tree-steps pass t 0 0 (depth t) [] good (omega arith) (omega arith)
 
 -- at the end, the deepest place is as deep as each tree that spells the text
-pub depth-seen : (level most limit : ℕ) (rest text value : List ℕ) → length rest ≡ 0 → deepest outside level most rest ≡ deepest outside 0 0 text → text ≡ value → (v : IsCompact limit value) → most ≡ depth v.tree
-depth-seen level most limit rest text value none same is v = grind (arith, nil_from_length rest none, deepest-depth v.tree v.good, v.spells)
+pub depth-seen : (level most limit : ℕ) (rest text value : List ℕ) → length rest ≡ 0
+    → deepest outside level most rest ≡ deepest outside 0 0 text → text ≡ value → (v : IsCompact limit value)
+    → most ≡ depth v.tree
+depth-seen level most limit rest text value none same is v =
+    grind (arith, nil_from_length rest none, deepest-depth v.tree v.good, v.spells)
 
-pub depth_holds : (level most : ℕ) (rest text value : List ℕ) → length rest ≡ 0 → deepest outside level most rest ≡ deepest outside 0 0 text → text ≡ value → IsCompact 128 value → IsCompact most value
+pub depth_holds : (level most : ℕ) (rest text value : List ℕ) → length rest ≡ 0
+    → deepest outside level most rest ≡ deepest outside 0 0 text → text ≡ value → IsCompact 128 value
+    → IsCompact most value
 depth_holds level most rest text value none same is v =
-    record { tree = v.tree; good = v.good; shallow = omega (arith, depth-seen level most 128 rest text value none same is v); spells = v.spells; means = v.means }
+    record {
+      tree = v.tree;
+      good = v.good;
+      shallow =
+          omega (arith, depth-seen level most 128 rest text value none same is v);
+      spells = v.spells;
+      means = v.means;
+    }
 
 -- a value that doesn't begin with an opening bracket nests at no depth
-pub scalar-nests : (limit : ℕ) (text : List ℕ) → IsCompact 128 text → ((byte : ℕ) (more : List ℕ) → text ≡ byte ∷ more → is_opening byte ≡ false) → IsCompact limit text
+pub scalar-nests : (limit : ℕ) (text : List ℕ) → IsCompact 128 text
+    → ((byte : ℕ) (more : List ℕ) → text ≡ byte ∷ more → is_opening byte ≡ false) → IsCompact limit text
 scalar-nests limit text v opens = elim (Value-Form v) [
   | literal h ↦ literal-compact limit text h
   | quoted t u e ↦ rw e (quote-compact limit t u)

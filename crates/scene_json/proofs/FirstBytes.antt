@@ -26,7 +26,8 @@ module _ (bytes : List ℕ) (at : ℕ) {item rest : List ℕ} (h : Compacted (dr
   pub object-first : (ms : List Member) → item ≡ object_text ms → get_or bytes at 0 ≡ 123
   object-first ms e = front-is bytes at (h.parts ∙ ap (λ i. i ++ rest) (e ∙ (object-starts ms).1))
 
-  pub array-here : get_or bytes at 0 ≡ 91 → (ts : List (List ℕ)) × AllByRecursion (IsCompact 127) ts × (item ≡ array_text ts)
+  pub array-here : get_or bytes at 0 ≡ 91 → (ts : List (List ℕ)) × AllByRecursion (IsCompact 127) ts
+      × (item ≡ array_text ts)
   array-here first = form-listed 128 item (Value-Form (Value-deeper (lit≤ tt) h.compact)) (starts first)
 
   pub array-first : (ts : List (List ℕ)) → item ≡ array_text ts → get_or bytes at 0 ≡ 91

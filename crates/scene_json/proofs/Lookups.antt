@@ -21,7 +21,8 @@ use Rattle.scene_json.specs.Named.{value_at, AreSameMembers, HaveRisingNames}
 use Rattle.json_text.proofs.CallerLemmas.{bytes_eq-true}
 
 -- what a look-up from a place on finds there
-pub value_at-found : (name : List ℕ) (ms : List Member) (i : ℕ) (m : Member) → i < length ms → m ≡ get_or ms i m → bytes_eq name m.name ≡ true →
+pub value_at-found : (name : List ℕ) (ms : List Member) (i : ℕ) (m : Member) → i < length ms → m ≡ get_or ms i m
+    → bytes_eq name m.name ≡ true →
     value_at name (pairs (drop i ms)) ≡ Some m.value
 value_at-found name (x ∷ xs) (suc i) m h e test = value_at-found name xs i m (omega arith) e test
 value_at-found name ms i m h e test = grind arith
@@ -33,9 +34,11 @@ found_moved name value ms ns apart moved found =
     lookup-from_Contains nat_list_eq_equiv name value ns apart
     (Contains-permutation ms ns (name, value) moved (Contains-from_lookup bytes_eq-true name value ms found))
 
-pub distinct_moved : (ms ns : List Pair) → IsPermutation ms ns → IsDistinct bytes_eq (names_of ms) → IsDistinct bytes_eq (names_of ns)
+pub distinct_moved : (ms ns : List Pair) → IsPermutation ms ns → IsDistinct bytes_eq (names_of ms)
+    → IsDistinct bytes_eq (names_of ns)
 distinct_moved ms ns moved apart =
-    IsDistinct-IsPermutation bytes_eq nat_list_eq_equiv.symm (names_of ms) (names_of ns) (IsPermutation-map (λ (m : Pair). m.0) ms ns moved) apart
+    IsDistinct-IsPermutation bytes_eq nat_list_eq_equiv.symm (names_of ms) (names_of ns)
+    (IsPermutation-map (λ (m : Pair). m.0) ms ns moved) apart
 
 pub same_moved : (ms ns : List Pair) → IsDistinct bytes_eq (names_of ms) → IsPermutation ms ns → AreSameMembers ms ns
 same_moved ms ns apart moved name =
@@ -77,15 +80,18 @@ rising_none = tt
 
 pub rising_distinct : (ms : List Pair) → HaveRisingNames ms → IsDistinct bytes_eq (names_of ms)
 rising_distinct ms rise =
-    subst (λ same. IsDistinct same (names_of ms)) (λ i a b. sym (texts_ties a b) i) (IsDistinct-from_sorted (slice_cmp nat_cmp) (names_of ms) rise)
+    subst (λ same. IsDistinct same (names_of ms)) (λ i a b. sym (texts_ties a b) i)
+    (IsDistinct-from_sorted (slice_cmp nat_cmp) (names_of ms) rise)
 
 -- a sort of members of distinct names makes them rise
-pub rising_from_sort : (vs : List Member) → IsSortedBy (λ (a : Member) (b : Member). is_lt (slice_cmp nat_cmp a.name b.name)) vs →
+pub rising_from_sort : (vs : List Member)
+    → IsSortedBy (λ (a : Member) (b : Member). is_lt (slice_cmp nat_cmp a.name b.name)) vs →
     IsDistinct bytes_eq (map (λ (v : Member). v.name) vs) → HaveRisingNames (pairs vs)
 rising_from_sort vs up apart =
     let names = map (λ (v : Member). v.name) vs in
     let none : Member = record { name = []; value = [] } in
-    subst (IsStrictlySortedBy (slice_cmp nat_cmp)) (sym (names-pairs vs)) (sorted_from_all_adjacent nat_list_cmp_total names [] (λ k h.
+    subst (IsStrictlySortedBy (slice_cmp nat_cmp)) (sym (names-pairs vs))
+    (sorted_from_all_adjacent nat_list_cmp_total names [] (λ k h.
     let within : k + 1 < length vs = simp length-map at h in
     grind (
       arith,
@@ -114,8 +120,10 @@ find_same name (m ∷ ms) = λ i. cond (sym (texts_ties name m.0) i) (Some m.1) 
 -- members whose names rise are told by their look-ups
 pub rising_same : (ms ns : List Pair) → HaveRisingNames ms → HaveRisingNames ns → AreSameMembers ms ns → ms ≡ ns
 rising_same ms ns rise other same =
-    let sorted = λ (ms : List Pair) (rise : HaveRisingNames ms). T_from_true (is_sorted (slice_cmp nat_cmp) ms) ((sorted_same ms).1 rise) in
-    same_entries (slice_cmp nat_cmp) nat_list_cmp_total (slice_cmp-IsAntisymmetric nat_cmp-IsAntisymmetric) ms ns (sorted ms rise) (sorted ns other)
+    let sorted = λ (ms : List Pair) (rise : HaveRisingNames ms). T_from_true (is_sorted (slice_cmp nat_cmp) ms)
+    ((sorted_same ms).1 rise) in
+    same_entries (slice_cmp nat_cmp) nat_list_cmp_total (slice_cmp-IsAntisymmetric nat_cmp-IsAntisymmetric) ms ns
+    (sorted ms rise) (sorted ns other)
     (λ name. find_same name ms ∙ same name ∙ sym (find_same name ns))
 
 pub ruleset lookup_steps = (value_at-found)

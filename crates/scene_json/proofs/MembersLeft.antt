@@ -22,16 +22,19 @@ pub record IsFirst (bytes : List ℕ) (member : Member) (rest : List ℕ) : Type
   pub parts : bytes ≡ quote member.0 ++ (58 ∷ (member.1 ++ rest))
   pub ends : IsEnd rest
 
-first-here : (rest bytes : List ℕ) (m : Member) (ms : List Member) → IsUtf8 m.0 → IsCompact 127 m.1 → bytes ≡ left_text object rest (map member_text (m ∷ ms)) → IsFirst bytes m (behind_member rest ms)
+first-here : (rest bytes : List ℕ) (m : Member) (ms : List Member) → IsUtf8 m.0 → IsCompact 127 m.1
+    → bytes ≡ left_text object rest (map member_text (m ∷ ms)) → IsFirst bytes m (behind_member rest ms)
 first-here rest bytes m ms named valued e = record {
   named = named;
   valued = valued;
-  parts = e ∙ behind-split object rest (member_text m) (map member_text ms) ∙ append_assoc (quote m.0) (58 ∷ m.1) (behind_member rest ms);
+  parts = e ∙ behind-split object rest (member_text m) (map member_text ms)
+      ∙ append_assoc (quote m.0) (58 ∷ m.1) (behind_member rest ms);
   ends = behind-ends object rest (map member_text ms);
 }
 
 -- ---- the start
-pub object-opened : (bytes : List ℕ) (start : ℕ) (all : List Member) (rest : List ℕ) → AreMembers 127 all → drop start bytes ≡ object_text all ++ rest → StandHere (drop (start + 1) bytes) all rest
+pub object-opened : (bytes : List ℕ) (start : ℕ) (all : List Member) (rest : List ℕ) → AreMembers 127 all
+    → drop start bytes ≡ object_text all ++ rest → StandHere (drop (start + 1) bytes) all rest
 unfolding object_text
 object-opened bytes start all rest are e = record {
   named = are.named;
@@ -51,16 +54,29 @@ pub record IsNextMember (bytes : List ℕ) (all : List Member) (rest : List ℕ)
 
 module _ (bytes : List ℕ) (at : ℕ) where
   pub members-inside : (all : List Member) (rest : List ℕ) → StandHere (drop at bytes) all rest → at < length bytes
-  members-inside all rest s = omega (arith, ap length s.here, length-drop at bytes, length-append (join_with_byte 44 (map member_text all)) (125 ∷ rest))
+  members-inside all rest s = omega (
+    arith,
+    ap length s.here,
+    length-drop at bytes,
+    length-append (join_with_byte 44 (map member_text all)) (125 ∷ rest),
+  )
 
   -- At the closing bracket there is none.
-  pub members-none : (all : List Member) (rest : List ℕ) → StandHere (drop at bytes) all rest → get_or bytes at 0 ≡ 125 → (all ≡ []) × (drop at bytes ≡ 125 ∷ rest)
+  pub members-none : (all : List Member) (rest : List ℕ) → StandHere (drop at bytes) all rest → get_or bytes at 0 ≡ 125
+      → (all ≡ []) × (drop at bytes ≡ 125 ∷ rest)
   unfolding quote
   members-none [] rest s closed = (refl, s.here)
   members-none (m ∷ ms) rest s closed =
-      absurd (omega (arith, closed, front-is bytes at (first-here rest (drop at bytes) m ms s.named.0 s.valued.0 s.here).parts))
+      absurd
+      (omega (
+        arith,
+        closed,
+        front-is bytes at (first-here rest (drop at bytes) m ms s.named.0 s.valued.0
+            s.here).parts,
+      ))
 
-  pub members-next : (all : List Member) (rest : List ℕ) → StandHere (drop at bytes) all rest → get_or bytes at 0 ≢ 125 → IsNextMember (drop at bytes) all rest
+  pub members-next : (all : List Member) (rest : List ℕ) → StandHere (drop at bytes) all rest → get_or bytes at 0 ≢ 125
+      → IsNextMember (drop at bytes) all rest
   members-next [] rest s other = absurd (other (front-is bytes at s.here))
   members-next (m ∷ ms) rest s other = record {
     item = m;
@@ -83,14 +99,17 @@ pub record ArePassed (stop : Option (List ℕ)) (all old new : List Member) (res
 -- ---- the end
 -- At an opening bracket it stopped, and elsewhere all are passed.
 module _ (bytes : List ℕ) (end : ℕ) {stop : Option (List ℕ)} {all passed : List Member} {rest : List ℕ} where
-  pub stopped-here : HaveEnded stop all passed rest (drop end bytes) → get_or bytes end 0 ≡ 91 → IsStopped stop all passed rest (drop end bytes)
+  pub stopped-here : HaveEnded stop all passed rest (drop end bytes) → get_or bytes end 0 ≡ 91
+      → IsStopped stop all passed rest (drop end bytes)
   stopped-here e bracket = grind (arith, front-is bytes end)
 
-  pub ended-here : HaveEnded stop all passed rest (drop end bytes) → get_or bytes end 0 ≢ 91 → (passed ≡ all) × All (IsPassed stop) passed
+  pub ended-here : HaveEnded stop all passed rest (drop end bytes) → get_or bytes end 0 ≢ 91 → (passed ≡ all)
+      × All (IsPassed stop) passed
   ended-here (inl ended) other = (ended.0, ended.1)
   ended-here (inr stopped) other = grind (arith, front-is bytes end, stopped.here, array-starts stopped.items)
 
-pub all-ended : {all passed : List Member} {rest bytes : List ℕ} → HaveEnded None all passed rest bytes → (passed ≡ all) × (bytes ≡ 125 ∷ rest)
+pub all-ended : {all passed : List Member} {rest bytes : List ℕ} → HaveEnded None all passed rest bytes → (passed ≡ all)
+    × (bytes ≡ 125 ∷ rest)
 all-ended e = grind arith
 
 -- ---- the first member
@@ -99,13 +118,24 @@ quoted-here {bytes} {rest} {m} first = quote-Quoted bytes m.0 (58 ∷ (m.1 ++ re
 
 -- this text is what any string at an offset is for, and it ends at the other one
 abbrev pub IsText : List ℕ → ℕ → List ℕ → ℕ → Type 0
-IsText bytes at text end = (other after : List ℕ) → Quoted (drop at bytes) other after → (text ≡ other) × (drop end bytes ≡ after)
+IsText bytes at text end =
+    (other after : List ℕ) → Quoted (drop at bytes) other after → (text ≡ other) × (drop end bytes ≡ after)
 
-module _ (bytes : List ℕ) (at colon : ℕ) (name : List ℕ) {m : Member} {rest : List ℕ} (first : IsFirst (drop at bytes) m rest) (found : IsText bytes at name colon) where
+module _ (bytes : List ℕ) (at colon : ℕ) (name : List ℕ) {m : Member} {rest : List ℕ}
+    (first : IsFirst (drop at bytes) m rest) (found : IsText bytes at name colon) where
   pub value-here : (name ≡ m.0) × (colon < length bytes) × Compacted (drop (colon + 1) bytes) m.1 rest
   value-here =
-      let here = found m.0 (58 ∷ (m.1 ++ rest)) (quoted-here first) in
-      (here.0, inside-after bytes colon here.1, record { compact = first.valued; parts = drop-after bytes colon here.1; ends = first.ends })
+      let here = found m.0 (58 ∷ (m.1 ++ rest)) (quoted-here first) in (
+        here.0,
+        inside-after bytes colon here.1,
+        record {
+          compact = first.valued;
+          parts = drop-after bytes colon here.1;
+          ends = first.ends;
+        },
+      )
 
-  pub end-here : (end : ℕ) → EndsAt bytes (colon + 1) end → (drop end bytes ≡ rest) × (take (end - (colon + 1)) (drop (colon + 1) bytes) ≡ m.1) × (end < length bytes)
-  end-here end ends = let here = ends m.1 rest value-here.2 in (here.0, here.1, ends-inside bytes end [] rest first.ends here.0)
+  pub end-here : (end : ℕ) → EndsAt bytes (colon + 1) end → (drop end bytes ≡ rest)
+      × (take (end - (colon + 1)) (drop (colon + 1) bytes) ≡ m.1) × (end < length bytes)
+  end-here end ends =
+      let here = ends m.1 rest value-here.2 in (here.0, here.1, ends-inside bytes end [] rest first.ends here.0)

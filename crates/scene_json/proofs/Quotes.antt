@@ -11,13 +11,17 @@ quote-once : (text other : List ℕ) → IsUtf8 text → IsUtf8 other → quote 
 quote-once text other utf8 is e =
     let q = utf8-Quotes text utf8 in
     let p = utf8-Quotes other is in
-    sym q.means ∙ ap content (pieces-once q.pieces p.pieces [] [] q.good p.good (tail-same (q.spells ∙ e ∙ sym p.spells))).0 ∙ p.means
+    sym q.means
+    ∙ ap content (pieces-once q.pieces p.pieces [] [] q.good p.good (tail-same (q.spells ∙ e ∙ sym p.spells))).0
+    ∙ p.means
 
-pub quotes-once : (texts others : List (List ℕ)) → AllByRecursion IsUtf8 texts → AllByRecursion IsUtf8 others → map quote texts ≡ map quote others → texts ≡ others
+pub quotes-once : (texts others : List (List ℕ)) → AllByRecursion IsUtf8 texts → AllByRecursion IsUtf8 others
+    → map quote texts ≡ map quote others → texts ≡ others
 quotes-once [] [] each all e = refl
 quotes-once (t ∷ ts) (o ∷ os) each all e = grind (arith, quote-once t o, quotes-once ts os)
 quotes-once ts os each all e = cc
 
-pub quotes-compact : (texts : List (List ℕ)) → AllByRecursion IsUtf8 texts → AllByRecursion (IsCompact 127) (map quote texts)
+pub quotes-compact : (texts : List (List ℕ)) → AllByRecursion IsUtf8 texts
+    → AllByRecursion (IsCompact 127) (map quote texts)
 quotes-compact [] each = tt
 quotes-compact (t ∷ ts) each = (quote-compact 127 t each.0, quotes-compact ts each.1)

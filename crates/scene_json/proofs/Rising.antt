@@ -17,17 +17,20 @@ abbrev listed : List (List ℕ) → (List ℕ → Option (List ℕ)) → List Pa
 listed [] found = []
 listed (n ∷ names) found = added n (found n) (listed names found)
 
-listed_at : (name : List ℕ) (names : List (List ℕ)) (found : List ℕ → Option (List ℕ)) → value_at name (listed names found) ≡ (if list_any (bytes_eq name) names then found name else None)
+listed_at : (name : List ℕ) (names : List (List ℕ)) (found : List ℕ → Option (List ℕ))
+    → value_at name (listed names found) ≡ (if list_any (bytes_eq name) names then found name else None)
 listed_at name [] found = refl
 listed_at name (n ∷ names) found = grind (arith, bytes_eq-true name n, listed_at name names found)
 
 -- Whatever is found under some names, and under no others, is the members of a list whose names rise.
-pub tabled : (names : List (List ℕ)) (find : List ℕ → Option (List ℕ)) → ((name : List ℕ) → list_any (bytes_eq name) names ≡ false → find name ≡ None)
+pub tabled : (names : List (List ℕ)) (find : List ℕ → Option (List ℕ))
+    → ((name : List ℕ) → list_any (bytes_eq name) names ≡ false → find name ≡ None)
     → (members : List Pair) × HaveRisingNames members × ((name : List ℕ) → value_at name members ≡ find name)
 tabled names find others =
     let map : FinMap (slice_cmp nat_cmp) (List ℕ) = from_entries (listed names find) in (
       entries map,
       (sorted_same (entries map)).0 (grind (arith, entries_sorted map)),
-      λ name. sym (find_same name (entries map)) ∙ sym (get-entries map name) ∙ get-from_entries nat_list_cmp_total (listed names find) name
+      λ name. sym (find_same name (entries map)) ∙ sym (get-entries map name)
+          ∙ get-from_entries nat_list_cmp_total (listed names find) name
           ∙ find_same name (listed names find) ∙ grind (arith, listed_at name names find, others name),
     )

@@ -14,23 +14,28 @@ use Rattle.scene_json.proofs.Passing.{IsPass, tree-steps}
 abbrev pub skipped : Place → ℕ → List ℕ → List ℕ
 skipped place level [] = []
 skipped outside level (b ∷ bs) =
-    if ends_value b && level == 0 then b ∷ bs else skipped (if b == 34 then inside false else outside) (level_after b level) bs
+    if ends_value b && level == 0 then b ∷ bs else skipped (if b == 34 then inside false else outside)
+    (level_after b level) bs
 skipped (inside escaped) level (b ∷ bs) =
     skipped (if b == 34 && not escaped then outside else inside (b == 92 && not escaped)) level bs
 
 -- a string changes nothing
-pub inside-string : (escaped : Bool) (level : ℕ) (bs : List ℕ) → skipped (inside escaped) level bs ≡ skipped outside level (behind_string escaped bs)
+pub inside-string : (escaped : Bool) (level : ℕ) (bs : List ℕ)
+    → skipped (inside escaped) level bs ≡ skipped outside level (behind_string escaped bs)
 inside-string escaped level [] = refl
 inside-string escaped level (b ∷ bs) = grind (arith, inside-string (b == 92 && not escaped) level bs)
 
 -- nor do bytes that play no part in where a value ends
-pub inert-run : (level : ℕ) (bs : List ℕ) → skipped outside level (drop (prefix_len is_inert bs) bs) ≡ skipped outside level bs
+pub inert-run : (level : ℕ) (bs : List ℕ) → skipped outside level (drop (prefix_len is_inert bs) bs)
+    ≡ skipped outside level bs
 inert-run level [] = refl
 inert-run level (b ∷ bs) = grind (arith, nat_tests, drop-drop (prefix_len is_inert bs) 1 (b ∷ bs), inert-run level bs)
 
-pub quiet-run : (level : ℕ) (bs : List ℕ) → 0 < level → skipped outside level (drop (prefix_len is_quiet bs) bs) ≡ skipped outside level bs
+pub quiet-run : (level : ℕ) (bs : List ℕ) → 0 < level → skipped outside level (drop (prefix_len is_quiet bs) bs)
+    ≡ skipped outside level bs
 quiet-run level [] some = refl
-quiet-run level (b ∷ bs) some = grind (arith, nat_tests, drop-drop (prefix_len is_quiet bs) 1 (b ∷ bs), quiet-run level bs)
+quiet-run level (b ∷ bs) some =
+    grind (arith, nat_tests, drop-drop (prefix_len is_quiet bs) 1 (b ∷ bs), quiet-run level bs)
 
 pub end-step : (rest : List ℕ) → IsEnd rest → skipped outside 0 rest ≡ rest
 end-step [] h = absurd h

@@ -1,4 +1,5 @@
--- The layout of two spaces a level. This project's own choice of white space, which RFC 8259, section 2, leaves free.
+-- The layout of two spaces a level. This project's own choice of white space, which RFC 8259,
+-- section 2, leaves free.
 use Rattle.std.specs.Prelude.{◌≡◌, ℕ, ◌+◌, List, [], ◌∷◌, replicate}
 use Rattle.json_text.specs.Tree.{Label, unnamed, named, Tree, scalar, text, empty, filled, Values, last, next, IsGood, spelling}
 
@@ -23,7 +24,8 @@ abbrev mutual
   values_laid_out spaces (last label value blank) =
       last (label_laid_out (spaces + 2) label) (laid_out (spaces + 2) value) (line spaces)
   values_laid_out spaces (next label value blank values) =
-      next (label_laid_out (spaces + 2) label) (laid_out (spaces + 2) value) [] (values_laid_out spaces values)
+      next (label_laid_out (spaces + 2) label) (laid_out (spaces + 2) value) []
+      (values_laid_out spaces values)
 
 -- What was written is the layout of the value with this text, whose lines have so many spaces.
 pub record IsLaidOut (spaces : ℕ) (bytes written : List ℕ) : Type 0 where

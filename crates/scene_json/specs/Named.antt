@@ -11,7 +11,8 @@ use Rattle.json_text.specs.Parts.{names_of}
 abbrev pub value_at : List ℕ → List Pair → Option (List ℕ)
 value_at name members = lookup (bytes_eq name) members
 
--- Both lists have the same value at each name: where no name comes twice, they are the same members in whatever order.
+-- Both lists have the same value at each name: where no name comes twice, they are the same members
+-- in whatever order.
 abbrev pub AreSameMembers : List Pair → List Pair → Type 0
 AreSameMembers members others = (name : List ℕ) → value_at name members ≡ value_at name others
 

@@ -8,23 +8,27 @@ use Rattle.json_text.specs.Compact.{Member as Pair, member_text, array_text}
 use Rattle.json_text.specs.Value.{IsCompact}
 use Rattle.scene_json.specs.Layout.{line}
 
--- What stands behind a string, of which these bytes are the rest: it ends at the first `"` without a `\` before it that
--- escapes it. RFC 8259, section 7.
+-- What stands behind a string, of which these bytes are the rest: it ends at the first `"` without
+-- a `\` before it that escapes it. RFC 8259, section 7.
 abbrev pub behind_string : Bool → List ℕ → List ℕ
 behind_string escaped [] = []
 behind_string escaped (b ∷ bs) =
-    if b == quotation_mark && not escaped then bs else behind_string (b == backslash && not escaped) bs
+    if b == quotation_mark && not escaped then bs else behind_string (b == backslash && not escaped)
+    bs
 
--- How many spaces a line has from this byte on, in the layout: two more from the first one in a container on, two fewer
--- from the bracket on that closes it, unless it is empty. This project's own.
+-- How many spaces a line has from this byte on, in the layout: two more from the first one in a
+-- container on, two fewer from the bracket on that closes it, unless it is empty. This project's
+-- own.
 abbrev pub spaces_from : Bool → ℕ → ℕ → ℕ
 spaces_from first spaces b =
-    if is_closing b then (if first then spaces else spaces - 2) else (if first then spaces + 2 else spaces)
+    if is_closing b then (if first then spaces else spaces - 2)
+    else (if first then spaces + 2 else spaces)
 
 -- what the layout has before a byte: there the number of spaces changes, on a new line
 abbrev pub put_before : Bool → ℕ → ℕ → List ℕ
 put_before first spaces b =
-    if is_closing b then (if first then [] else line (spaces - 2)) else (if first then line (spaces + 2) else [])
+    if is_closing b then (if first then [] else line (spaces - 2))
+    else (if first then line (spaces + 2) else [])
 
 -- what the layout has behind a byte: a new line behind a comma, a space behind a colon
 abbrev pub put_behind : ℕ → ℕ → List ℕ
@@ -35,7 +39,8 @@ abbrev pub IsEnd : List ℕ → Type 0
 IsEnd [] = ⊥
 IsEnd (b ∷ bytes) = ends_value b ≡ true
 
--- A value in a container that is its own compact text, and nests at most 127, stands at the front; the rest follows it.
+-- A value in a container that is its own compact text, and nests at most 127, stands at the front;
+-- the rest follows it.
 pub record Compacted (bytes text rest : List ℕ) : Type 0 where
   pub compact : IsCompact 127 text
   pub parts : bytes ≡ text ++ rest
@@ -51,15 +56,18 @@ EndsAt bytes at end =
 abbrev pub left_text : Container → List ℕ → List (List ℕ) → List ℕ
 left_text c rest items = join_with_byte 44 items ++ closing c ∷ rest
 
--- the same from the end of the text before them on: a comma and they, or the closing bracket at once
+-- the same from the end of the text before them on: a comma and they, or the closing bracket at
+-- once
 abbrev pub behind_item : Container → List ℕ → List (List ℕ) → List ℕ
 behind_item c rest [] = closing c ∷ rest
 behind_item c rest (next ∷ more) = 44 ∷ left_text c rest (next ∷ more)
 
--- Whatever stands behind the end of an item or a member stands, its comma passed, from the other offset on.
+-- Whatever stands behind the end of an item or a member stands, its comma passed, from the other
+-- offset on.
 abbrev pub GoesOn : List ℕ → ℕ → ℕ → Type 0
 GoesOn bytes end next =
-    (c : Container) (rest : List ℕ) (more : List (List ℕ)) → drop end bytes ≡ behind_item c rest more
+    (c : Container) (rest : List ℕ) (more : List (List ℕ))
+    → drop end bytes ≡ behind_item c rest more
     → drop next bytes ≡ left_text c rest more
 
 -- These members stand at the front, from the first one on; the rest follows the closing bracket.
@@ -73,7 +81,8 @@ abbrev pub IsPassed : Option (List ℕ) → Pair → Type 0
 IsPassed stop member = stop ≡ Some member.0 → (items : List (List ℕ)) → member.1 ≢ array_text items
 
 -- Of these members some are passed, up to one to stop at, whose array stands at the front now.
-pub record IsStopped (stop : Option (List ℕ)) (all passed : List Pair) (rest bytes : List ℕ) : Type 0 where
+pub record IsStopped (stop : Option (List ℕ)) (all passed : List Pair) (rest bytes : List ℕ) :
+    Type 0 where
   pub name : List ℕ
   pub items : List (List ℕ)
   pub behind : List Pair
@@ -84,7 +93,9 @@ pub record IsStopped (stop : Option (List ℕ)) (all passed : List Pair) (rest b
   pub valued : AllByRecursion (λ (m : Pair). IsCompact 127 m.1) behind
   pub here : bytes ≡ array_text items ++ behind_item object rest (map member_text behind)
 
--- All these members are passed, and the closing bracket stands at the front now; or it stopped before.
+-- All these members are passed, and the closing bracket stands at the front now; or it stopped
+-- before.
 abbrev pub HaveEnded : Option (List ℕ) → List Pair → List Pair → List ℕ → List ℕ → Type 0
 HaveEnded stop all passed rest bytes =
-    ((passed ≡ all) × All (IsPassed stop) passed × (bytes ≡ 125 ∷ rest)) ⊎ IsStopped stop all passed rest bytes
+    ((passed ≡ all) × All (IsPassed stop) passed × (bytes ≡ 125 ∷ rest))
+    ⊎ IsStopped stop all passed rest bytes

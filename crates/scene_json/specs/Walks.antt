@@ -35,13 +35,17 @@ pub record AreBehind (walk : Walk) (members : List Pair) : Type 0 where
 -- The item has these members, or is no object.
 abbrev pub IsTakenApart : List ℕ → Option (List Member) → Type 0
 IsTakenApart item None = (members : List Pair) → item ≢ object_text members
-IsTakenApart item (Some members) = AreMembers 127 (pairs members) × (item ≡ object_text (pairs members))
+IsTakenApart item (Some members) =
+    AreMembers 127 (pairs members) × (item ≡ object_text (pairs members))
 
--- The object's members are taken up to an array of this name, whose items the walk is over, or all where there is none.
+-- The object's members are taken up to an array of this name, whose items the walk is over, or all
+-- where there is none.
 abbrev pub AreTakenTo : List ℕ → List ℕ → List Pair → Option Walk → Type 0
 AreTakenTo name value taken None =
     AreMembers 127 taken × (value ≡ object_text taken)
     × All (λ (m : Pair). (items : List (List ℕ)) → m ≢ (name, array_text items)) taken
 AreTakenTo name value taken (Some walk) =
-    (items : List (List ℕ)) × (behind : List Pair) × AreMembers 127 (taken ++ (name, array_text items) ∷ behind)
-    × (value ≡ object_text (taken ++ (name, array_text items) ∷ behind)) × AreLeft walk items × AreBehind walk behind
+    (items : List (List ℕ)) × (behind : List Pair)
+    × AreMembers 127 (taken ++ (name, array_text items) ∷ behind)
+    × (value ≡ object_text (taken ++ (name, array_text items) ∷ behind)) × AreLeft walk items
+    × AreBehind walk behind

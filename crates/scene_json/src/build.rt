@@ -56,8 +56,8 @@ pub fn raw_of(bytes: Vec<u8>) -> Result<Raw, AllocError>
     Raw::from_compact(bytes)
 }
 
-/// The text as a string: `"` and `\` stand behind a `\`, and of the control characters five have a letter and the
-/// others four digits of base 16 in lower case.
+/// The text as a string: `"` and `\` stand behind a `\`, and of the control characters five have a
+/// letter and the others four digits of base 16 in lower case.
 #[tactic(auto, using(json_text::proofs::CallerLemmas::compact_texts))]
 pub fn raw_text(alloc: Global, text: &Text) -> Result<Raw, AllocError>
     ensures quote { IfOk result (λ raw. raw ≡ quote text.now) }
@@ -72,7 +72,8 @@ pub fn raw_text(alloc: Global, text: &Text) -> Result<Raw, AllocError>
 pub fn raw_array(alloc: Global, items: &List<Raw>) -> Result<Raw, AllocError>
     requires { All (IsCompact 127) items.now }
     ensures text { IfOk result (λ raw. raw ≡ array_text items.now) }
-    ensures nests { (limit : ℕ) → All (IsCompact limit) items.now → IfOk result (IsCompact (limit + 1)) }
+    ensures nests { (limit : ℕ) → All (IsCompact limit) items.now
+        → IfOk result (IsCompact (limit + 1)) }
 {
     let mut out = Vec::new(alloc);
     out.push(b'[')?;
@@ -84,7 +85,8 @@ pub fn raw_array(alloc: Global, items: &List<Raw>) -> Result<Raw, AllocError>
     Raw::from_compact(out)
 }
 
-/// The object of these members in their order. No name comes twice, and each value has at most 127 open brackets.
+/// The object of these members in their order. No name comes twice, and each value has at most 127
+/// open brackets.
 pub fn raw_object(alloc: Global, members: &List<Member>) -> Result<Raw, AllocError>
     requires distinct { IsDistinct bytes_eq (map (λ member. member.name) members.now) }
     requires values { All (λ member. IsCompact 127 member.value) members.now }
@@ -102,7 +104,8 @@ pub fn raw_object(alloc: Global, members: &List<Member>) -> Result<Raw, AllocErr
     Raw::from_compact(out)
 }
 
-/// Appends a member: its quoted name, a colon and its value. For want of memory nothing is appended.
+/// Appends a member: its quoted name, a colon and its value. For want of memory nothing is
+/// appended.
 #[inline(always)]
 pub fn push_member(out: &mut Vec<u8>, name: &Text, value: &Raw) -> Result<(), AllocError>
     ensures ok { OnOk result (out.new.items ≡ out.old.items ++ member_text (name.now, value.now)) }
@@ -126,8 +129,8 @@ fn push_member_parts(out: &mut Vec<u8>, name: &Text, value: &Raw) -> Result<(), 
     out.extend_from_slice(value.as_bytes())
 }
 
-/// Appends the comma before the item at this index, which the first has none of. For want of memory nothing is
-/// appended.
+/// Appends the comma before the item at this index, which the first has none of. For want of memory
+/// nothing is appended.
 pub fn push_comma(out: &mut Vec<u8>, i: usize) -> Result<(), AllocError>
     ensures ok { OnOk result (((0 < i) × (out.new.items ≡ out.old.items ++ 44 ∷ []))
         ⊎ ((i ≡ 0) × (out.new.items ≡ out.old.items))) }

@@ -17,9 +17,9 @@ use json_text::{Raw, is_space, run_end, whole_or_cut};
 use std::alloc::{AllocError, Global};
 use std::marker::Model;
 
-/// The value with each member and item on a line of its own, two spaces deeper than its container, and a space behind
-/// the colon of a member. Empty containers are `{}` and `[]`, and no line feed ends it. It fails for want of memory
-/// alone.
+/// The value with each member and item on a line of its own, two spaces deeper than its container,
+/// and a space behind the colon of a member. Empty containers are `{}` and `[]`, and no line feed
+/// ends it. It fails for want of memory alone.
 pub fn pretty(alloc: Global, value: &Raw) -> Result<Bytes, AllocError>
     ensures laid_out { IfOk result (λ bytes. (tree : Tree) → IsGood tree → spelling tree ≡ value.now
         → bytes ≡ spelling (laid_out 0 tree)) }
@@ -50,7 +50,12 @@ impl Model for Lines {
 
     ghost Value = { Standing };
 
-    ghost view = { λ l. record { place = place_of l.quoted l.escaped; first = l.first; spaces = 2 * l.level } };
+    ghost view = { λ l. record {
+      place = place_of l.quoted l.escaped;
+      first = l.first;
+      spaces =
+          2 * l.level;
+    } };
 }
 
 impl Lines {
@@ -79,8 +84,8 @@ impl Lines {
         }
     }
 
-    /// Appends the layout of the next piece, which may end anywhere in the text. White space between values is left
-    /// out. For want of memory nothing is appended.
+    /// Appends the layout of the next piece, which may end anywhere in the text. White space
+    /// between values is left out. For want of memory nothing is appended.
     pub fn push(&mut self, out: &mut Vec<u8>, piece: &[u8]) -> Result<(), AllocError>
         ensures ok { OnOk result ((text : Items ℕ) → IsLaidOutSoFar self.old text out.old.items
             → IsLaidOutSoFar self.new (text ++ piece.now) out.new.items) }
@@ -109,8 +114,8 @@ impl Lines {
         Ok(())
     }
 
-    /// Appends the layout of the plain characters of a string that stand at the front, and of the byte behind them, and
-    /// gives what follows.
+    /// Appends the layout of the plain characters of a string that stand at the front, and of the
+    /// byte behind them, and gives what follows.
     #[tactic(auto, using(json_text::proofs::CallerLemmas::extends_same, json_text::proofs::CallerLemmas::extends_by, json_text::proofs::CallerLemmas::extends_then, crate::proofs::Spread::run_from))]
     fn push_next<'a>(&mut self, out: &mut Vec<u8>, bytes: &'a [u8]) -> Result<&'a [u8], AllocError>
         ensures appended { IfOk result (λ rest. (more : Items ℕ)
@@ -145,7 +150,8 @@ impl Lines {
     /// Appends the layout of a byte.
     #[tactic(auto, using(json_text::proofs::CallerLemmas::extends_same, json_text::proofs::CallerLemmas::extends_by, json_text::proofs::CallerLemmas::extends_then))]
     fn push_byte(&mut self, out: &mut Vec<u8>, byte: u8) -> Result<(), AllocError>
-        ensures appended { OnOk result ((more : Items ℕ) → out.new.items ++ layout_from self.new more
+        ensures appended { OnOk result ((more : Items ℕ)
+            → out.new.items ++ layout_from self.new more
             ≡ out.old.items ++ layout_from self.old (byte ∷ more)) }
         ensures kept { Extends out.old.items out.new.items }
     {
@@ -165,11 +171,13 @@ impl Lines {
     }
 }
 
-/// Begins the line of this byte, if it is the first in a container or closes one that isn't empty, and gives its level.
+/// Begins the line of this byte, if it is the first in a container or closes one that isn't empty,
+/// and gives its level.
 #[tactic(auto, using(json_text::proofs::CallerLemmas::extends_same, json_text::proofs::CallerLemmas::extends_by, json_text::proofs::CallerLemmas::extends_then))]
 fn break_line(out: &mut Vec<u8>, level: u64, first: bool, byte: u8) -> Result<u64, AllocError>
     ensures level { IfOk result (λ now. 2 * now ≡ spaces_from first (2 * level) byte) }
-    ensures written { OnOk result (out.new.items ≡ out.old.items ++ put_before first (2 * level) byte) }
+    ensures written { OnOk result (out.new.items ≡ out.old.items
+        ++ put_before first (2 * level) byte) }
     ensures kept { OnErr result (Extends out.old.items out.new.items) }
 {
     let closing = closes(byte);

@@ -40,7 +40,8 @@ pub fn has_value(members: &List<Member>, name: &str, text: &str) -> bool
 /// The whole number that the member with this name is, if it is one. It takes no memory.
 pub fn whole_named(members: &List<Member>, name: &str) -> Option<u64>
     ensures { IsTheOne
-        (λ (n : ℕ). (n ≤ GREATEST_WHOLE) × (value_at name.now (pairs members.now) ≡ Some (decimal n))) result }
+        (λ (n : ℕ). (n ≤ GREATEST_WHOLE)
+        × (value_at name.now (pairs members.now) ≡ Some (decimal n))) result }
 {
     whole_of(value_named(members, name)?)
 }
@@ -52,7 +53,8 @@ pub fn text_named(
     name: &str,
 ) -> Result<Option<Text>, AllocError>
     ensures { IfOk result (IsTheOne
-        (λ (text : Items ℕ). IsUtf8 text × (value_at name.now (pairs members.now) ≡ Some (quote text)))) }
+        (λ (text : Items ℕ). IsUtf8 text
+        × (value_at name.now (pairs members.now) ≡ Some (quote text)))) }
 {
     let Some(value) = value_named(members, name) else {
         return Ok(None);

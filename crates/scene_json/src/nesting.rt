@@ -7,7 +7,8 @@ ghost use Rattle.scene_json.specs.Passes.{behind_string};
 
 use json_text::{Raw, run_end};
 
-/// How many brackets are open at once where most are: 0 for a number, a word or a string. It takes no memory.
+/// How many brackets are open at once where most are: 0 for a number, a word or a string. It takes
+/// no memory.
 #[tactic(auto, using(crate::proofs::Depths::depth_steps))]
 pub fn depth_of(value: &Raw) -> u64
     ensures holds { IsCompact result value.now }
@@ -41,7 +42,8 @@ pub fn nests_at_most(value: &Raw, limit: u64) -> bool
 
 /// Whether the first byte opens a container.
 fn is_container(bytes: &[u8]) -> bool
-    ensures { result ≡ false → (byte : ℕ) (more : Items ℕ) → bytes.now ≡ byte ∷ more → is_opening byte ≡ false }
+    ensures { result ≡ false → (byte : ℕ) (more : Items ℕ) → bytes.now ≡ byte ∷ more
+        → is_opening byte ≡ false }
 {
     match bytes.split_first() {
         Some((byte, _more)) => opens(*byte),

@@ -27,8 +27,10 @@ const FEW: usize = 40;
 /// The text of a string. `Shape` comes exactly where the value is no string.
 pub fn text_of(alloc: Global, value: &Raw) -> Result<Text, Stop<Shape>>
     ensures spelled { IfOk result (λ found. value.now ≡ quote found) }
-    ensures only { IfOk result (λ found. (other : Items ℕ) → IsUtf8 other → value.now ≡ quote other → found ≡ other) }
-    ensures shape { result ≡ Err (Stop.Fault (record {})) → (other : Items ℕ) → value.now ≢ quote other }
+    ensures only { IfOk result (λ found. (other : Items ℕ) → IsUtf8 other → value.now ≡ quote other
+        → found ≡ other) }
+    ensures shape { result ≡ Err (Stop.Fault (record {})) → (other : Items ℕ)
+        → value.now ≢ quote other }
 {
     let bytes = value.as_bytes();
     if !begins_with(bytes, b'"') {
@@ -53,9 +55,11 @@ fn begins_with(bytes: &[u8], first: u8) -> bool
 pub fn items(alloc: Global, value: &Raw) -> Result<List<Raw>, Stop<Shape>>
     ensures spelled { IfOk result (λ found. value.now ≡ array_text found) }
     ensures compact { IfOk result (λ found. AllByRecursion (IsCompact 127) found) }
-    ensures only { IfOk result (λ found. (others : Items (Items ℕ)) → AllByRecursion (IsCompact 127) others
+    ensures only { IfOk result (λ found. (others : Items (Items ℕ))
+        → AllByRecursion (IsCompact 127) others
         → value.now ≡ array_text others → found ≡ others) }
-    ensures shape { result ≡ Err (Stop.Fault (record {})) → (others : Items (Items ℕ)) → value.now ≢ array_text others }
+    ensures shape { result ≡ Err (Stop.Fault (record {})) → (others : Items (Items ℕ))
+        → value.now ≢ array_text others }
 {
     let bytes = value.as_bytes();
     if !begins_with(bytes, b'[') {
@@ -77,7 +81,8 @@ pub fn members(alloc: Global, value: &Raw) -> Result<List<Member>, Stop<Shape>>
     ensures kept { IfOk result (λ found. AreMembers 127 (pairs found)) }
     ensures only { IfOk result (λ found. (others : Items Pair) → AreMembers 127 others
         → value.now ≡ object_text others → pairs found ≡ others) }
-    ensures shape { result ≡ Err (Stop.Fault (record {})) → (others : Items Pair) → value.now ≢ object_text others }
+    ensures shape { result ≡ Err (Stop.Fault (record {})) → (others : Items Pair)
+        → value.now ≢ object_text others }
 {
     if !begins_with(value.as_bytes(), b'{') {
         return Err(Stop::Fault(Shape));
@@ -87,15 +92,17 @@ pub fn members(alloc: Global, value: &Raw) -> Result<List<Member>, Stop<Shape>>
     Ok(List::from_vec(found))
 }
 
-/// The members of an object before the one of this name whose value is an array, and a walk over the array's items; or
-/// all members where there is none. `Shape` comes exactly where the value is no object.
+/// The members of an object before the one of this name whose value is an array, and a walk over
+/// the array's items; or all members where there is none. `Shape` comes exactly where the value is
+/// no object.
 pub fn members_to<'a>(
     alloc: Global,
     value: &'a Raw,
     name: &str,
 ) -> Result<(List<Member>, Option<Objects<'a>>), Stop<Shape>>
     ensures taken { IfOk result (λ found. AreTakenTo name.now value.now (pairs found.0) found.1) }
-    ensures shape { result ≡ Err (Stop.Fault (record {})) → (others : Items Pair) → value.now ≢ object_text others }
+    ensures shape { result ≡ Err (Stop.Fault (record {})) → (others : Items Pair)
+        → value.now ≢ object_text others }
 {
     let bytes = value.as_bytes();
     if !begins_with(bytes, b'{') {
@@ -112,8 +119,8 @@ pub fn members_to<'a>(
     Ok((taken, None))
 }
 
-/// Appends the members of an object from an offset on, and gives the offset of the closing bracket; or those before the
-/// one to stop at, and the offset of its value, which is an array.
+/// Appends the members of an object from an offset on, and gives the offset of the closing bracket;
+/// or those before the one to stop at, and the offset of its value, which is an array.
 #[inline(always)]
 fn push_members(
     alloc: Global,
@@ -123,7 +130,8 @@ fn push_members(
     stop: Option<&str>,
 ) -> Result<usize, AllocError>
     requires { (all : Items Pair) × (rest : Items ℕ) × StandHere (drop start value.now) all rest }
-    ensures found { IfOk result (λ end. (all : Items Pair) (rest : Items ℕ) → StandHere (drop start value.now) all rest
+    ensures found { IfOk result (λ end. (all : Items Pair) (rest : Items ℕ)
+        → StandHere (drop start value.now) all rest
         → (passed : Items Pair) × (pairs found.new.items ≡ pairs found.old.items ++ passed)
         × HaveEnded (option_copied stop.entry) all passed rest (drop end value.now)) }
     ensures within { IfOk result (λ end. (start ≤ end) × (end < length value.now)) }
@@ -171,21 +179,24 @@ impl<'a> Model for Objects<'a> {
 
     ghost view = { λ o. record { text = o.text.now; at = o.at } };
 
-    ghost invariant = { λ o. (left : List (List ℕ)) × AreLeft (record { text = o.text.now; at = o.at }) left };
+    ghost invariant = { λ o. (left : List (List ℕ))
+        × AreLeft (record { text = o.text.now; at = o.at }) left };
 }
 
 impl<'a> Objects<'a> {
-    /// The members of the next item, or `None` where it is no object. The outer `None` comes exactly where no item is
-    /// left.
+    /// The members of the next item, or `None` where it is no object. The outer `None` comes
+    /// exactly where no item is left.
     pub fn next(&mut self, alloc: Global) -> Result<Option<Option<List<Member>>>, AllocError>
         ensures next { IfOk result (λ found. (left : Items (Items ℕ)) → AreLeft self.old left
             → MatchOption found (left ≡ [])
             (λ next. (item : Items ℕ) × (others : Items (Items ℕ)) × (left ≡ item ∷ others)
             × AreLeft self.new others × IsTakenApart item next)) }
-        ensures taken { IfOk result (λ found. IfSome found (λ next. (item : Items ℕ) × IsTakenApart item next)) }
+        ensures taken { IfOk result (λ found. IfSome found (λ next. (item : Items ℕ)
+            × IsTakenApart item next)) }
         ensures passed { IfOk result (λ found. IfSome found
             (λ next. (self.old.at < self.new.at) × (self.new.at < 2 ^ 64))) }
-        ensures behind { (members : Items Pair) → AreBehind self.old members → AreBehind self.new members }
+        ensures behind { (members : Items Pair) → AreBehind self.old members
+            → AreBehind self.new members }
         ensures unchanged { OnErr result (self.new ≡ self.old) }
     {
         let bytes = self.text.as_bytes();
@@ -231,7 +242,8 @@ fn item_at(
     at: usize,
 ) -> Result<(Option<List<Member>>, usize), AllocError>
     requires { (item rest : Items ℕ) × Compacted (drop at array.now) item rest }
-    ensures item { IfOk result (λ found. (item rest : Items ℕ) → Compacted (drop at array.now) item rest
+    ensures item { IfOk result (λ found. (item rest : Items ℕ)
+        → Compacted (drop at array.now) item rest
         → IsTakenApart item found.0 × (drop found.1 array.now ≡ rest)) }
     ensures within { IfOk result (λ found. (at ≤ found.1) × (found.1 ≤ length array.now)) }
 {
@@ -280,8 +292,8 @@ fn after_value(bytes: &[u8]) -> &[u8]
     }
 }
 
-/// What stands behind the compact text at the front: the first comma or closing bracket outside strings and brackets,
-/// and all that follows it.
+/// What stands behind the compact text at the front: the first comma or closing bracket outside
+/// strings and brackets, and all that follows it.
 #[tactic(auto, using(crate::proofs::Skipped::skip_steps))]
 fn after_brackets(bytes: &[u8]) -> &[u8]
     ensures within { length result.now ≤ length bytes.now }

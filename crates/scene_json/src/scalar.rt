@@ -5,10 +5,12 @@ ghost use Rattle.json_text.specs.Tree.{null_word, true_word, false_word};
 
 use json_text::Raw;
 
-/// The greatest whole number that is read: the greatest that JavaScript counts exactly, one below 2 to the 53rd.
+/// The greatest whole number that is read: the greatest that JavaScript counts exactly, one below 2
+/// to the 53rd.
 pub const GREATEST_WHOLE: u64 = 9_007_199_254_740_991;
 
-/// The whole number that the value is in plain decimal, where it is at most 9,007,199,254,740,991. It takes no memory.
+/// The whole number that the value is in plain decimal, where it is at most 9,007,199,254,740,991.
+/// It takes no memory.
 pub fn whole_of(value: &Raw) -> Option<u64>
     ensures found { IfSome result (λ n. (n ≤ GREATEST_WHOLE) × (value.now ≡ decimal n)) }
     ensures only { (n : ℕ) → n ≤ GREATEST_WHOLE → value.now ≡ decimal n → result ≡ Some n }
@@ -16,8 +18,8 @@ pub fn whole_of(value: &Raw) -> Option<u64>
     whole_in(value.as_bytes())
 }
 
-/// The whole number that these bytes are in plain decimal, where it is at most 9,007,199,254,740,991. It takes no
-/// memory.
+/// The whole number that these bytes are in plain decimal, where it is at most
+/// 9,007,199,254,740,991. It takes no memory.
 #[tactic(auto, using(crate::proofs::Decimals::decimal_steps))]
 pub fn whole_in(digits: &[u8]) -> Option<u64>
     ensures found { IfSome result (λ n. (n ≤ GREATEST_WHOLE) × (digits.now ≡ decimal n)) }
@@ -29,7 +31,8 @@ pub fn whole_in(digits: &[u8]) -> Option<u64>
     number_of(digits)
 }
 
-/// The number that these bytes are the digits of, where it is at most the greatest; the first of several isn't 0.
+/// The number that these bytes are the digits of, where it is at most the greatest; the first of
+/// several isn't 0.
 #[tactic(auto, using(crate::proofs::Decimals::decimal_steps))]
 fn number_of(digits: &[u8]) -> Option<u64>
     requires some { 0 < length digits.now }

@@ -16,7 +16,8 @@ use std::alloc::{AllocError, Global};
 /// The texts that the value is an array of, if it is one of texts alone.
 pub fn texts_of(alloc: Global, value: &Raw) -> Result<Option<List<Text>>, AllocError>
     ensures { IfOk result (IsTheOne
-        (λ (texts : Items (Items ℕ)). AllByRecursion IsUtf8 texts × (value.now ≡ array_text (map quote texts)))) }
+        (λ (texts : Items (Items ℕ)). AllByRecursion IsUtf8 texts
+        × (value.now ≡ array_text (map quote texts)))) }
 {
     let Some(items) = shaped(items(alloc, value))? else {
         return Ok(None);

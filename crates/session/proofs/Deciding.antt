@@ -15,7 +15,8 @@ abbrev Decided : {A : Type 0} → A → A → Type 0
 Decided a b = (a ≡ b) ⊎ (a ≢ b)
 
 -- what has all that another type tells of it
-retracted : {A B : Type 0} (to : A → B) (back : B → A) → ((a : A) → back (to a) ≡ a) → ((x y : B) → Decided x y) → (a b : A) → Decided a b
+retracted : {A B : Type 0} (to : A → B) (back : B → A) → ((a : A) → back (to a) ≡ a) → ((x y : B) → Decided x y)
+    → (a b : A) → Decided a b
 retracted to back is decide a b = elim (decide (to a) (to b)) [
   | inl e ↦ inl (sym (is a) ∙ (ap back e ∙ is b))
   | inr n ↦ inr (λ p. n (ap to p))
@@ -143,11 +144,13 @@ entries =
 
 members : (a b : Member) → Decided a b
 members =
-    retracted (λ (m : Member). (m.name, m.value)) (λ p. record { name = p.0; value = p.1 }) (λ m. refl) (both bytes bytes)
+    retracted (λ (m : Member). (m.name, m.value)) (λ p. record { name = p.0; value = p.1 }) (λ m. refl)
+    (both bytes bytes)
 
 bindings : (a b : Binding) → Decided a b
 bindings =
-    retracted (λ (b : Binding). (b.target, b.rest)) (λ p. record { target = p.0; rest = p.1 }) (λ b. refl) (both bytes (lists members))
+    retracted (λ (b : Binding). (b.target, b.rest)) (λ p. record { target = p.0; rest = p.1 }) (λ b. refl)
+    (both bytes (lists members))
 
 -- the members of an element, in three parts
 abbrev Stamped : Type 0

@@ -1,4 +1,5 @@
--- Held ids with one more, and without one: they rise, and hold what they should, so they are those that a replica holds.
+-- Held ids with one more, and without one: they rise, and hold what they should, so they are those that a replica
+-- holds.
 use Rattle.std.proofs.Common.{◌≡◌, ℕ, Bool, true, false, not, ◌&&◌, ◌||◌, List, [], ◌∷◌, if◌then◌else◌, bytes_eq, Ordering, Less, is_lt, nat_cmp, refl, sym, ap, ◌∙◌, subst, arith}
 use Rattle.std.specs.Cmp.Lexicographic.{slice_cmp}
 use Rattle.std.specs.List.{AllByRecursion}
@@ -33,14 +34,26 @@ rising-more : (id : List ℕ) (ids : List (List ℕ)) → AreStrictlySorted ids 
 unfolding IsStrictlySortedBy
 rising-more id [] rise = (tt, tt)
 rising-more id (other ∷ ids) rise =
-    elim (bytes_less other id) as (λ b. bytes_less other id ≡ b → AreStrictlySorted (if b then other ∷ with_id id ids else (if bytes_eq id other then id ∷ ids else id ∷ other ∷ ids))) [
+    elim (bytes_less other id) as (λ b. bytes_less other id ≡ b
+    → AreStrictlySorted (if b then other ∷ with_id id ids else (if bytes_eq id other then id ∷ ids else id ∷ other
+    ∷ ids))) [
       | true ↦ λ less. (each-put itself (IsAbove other) id ids (above other id less) rise.0, rising-more id ids rise.1)
       | false ↦ λ more.
-          elim (bytes_eq id other) as (λ b. bytes_eq id other ≡ b → AreStrictlySorted (if b then id ∷ ids else id ∷ other ∷ ids)) [
-            | true ↦ λ same. (subst (λ k. AllByRecursion (IsAbove k) ids) (sym (bytes_eq-true id other same)) rise.0, rise.1)
+          elim (bytes_eq id other) as (λ b. bytes_eq id other ≡ b
+          → AreStrictlySorted (if b then id ∷ ids else id ∷ other ∷ ids)) [
+            | true ↦ λ same. (
+              subst (λ k. AllByRecursion (IsAbove k) ids) (sym (bytes_eq-true id other same)) rise.0,
+              rise.1,
+            )
             | false ↦ λ apart.
-                let below = above id other (bytes_less-turned id other apart more) in
-                ((below, AllByRecursion-weaker (IsAbove other) (IsAbove id) ids (λ last h. above-trans id other last below h) rise.0), rise)
+                let below = above id other (bytes_less-turned id other apart more) in (
+                  (
+                    below,
+                    AllByRecursion-weaker (IsAbove other) (IsAbove id) ids
+                        (λ last h. above-trans id other last below h) rise.0,
+                  ),
+                  rise,
+                )
           ] refl
     ] refl
 
@@ -54,28 +67,39 @@ or-same true b c e = refl
 or-same false true c e = ap (λ d. d || c) e
 or-same false false c e = refl
 
-held-more : (id : List ℕ) (ids : List (List ℕ)) (q : List ℕ) → is_held (with_id id ids) q ≡ (bytes_eq q id || is_held ids q)
+held-more : (id : List ℕ) (ids : List (List ℕ)) (q : List ℕ)
+    → is_held (with_id id ids) q ≡ (bytes_eq q id || is_held ids q)
 held-more id [] q = refl
 held-more id (other ∷ ids) q =
-    elim (bytes_less other id) as (λ b. is_held (if b then other ∷ with_id id ids else (if bytes_eq id other then id ∷ ids else id ∷ other ∷ ids)) q ≡ (bytes_eq q id || (bytes_eq q other || is_held ids q))) [
-      | true ↦ ap (λ b. bytes_eq q other || b) (held-more id ids q) ∙ or-turned (bytes_eq q other) (bytes_eq q id) (is_held ids q)
+    elim (bytes_less other id) as (λ b. is_held (if b then other
+    ∷ with_id id ids else (if bytes_eq id other then id ∷ ids else id ∷ other ∷ ids)) q
+    ≡ (bytes_eq q id || (bytes_eq q other || is_held ids q))) [
+      | true ↦ ap (λ b. bytes_eq q other || b) (held-more id ids q)
+          ∙ or-turned (bytes_eq q other) (bytes_eq q id) (is_held ids q)
       | false ↦
-          elim (bytes_eq id other) as (λ b. bytes_eq id other ≡ b → is_held (if b then id ∷ ids else id ∷ other ∷ ids) q ≡ (bytes_eq q id || (bytes_eq q other || is_held ids q))) [
-            | true ↦ λ same. or-same (bytes_eq q id) (bytes_eq q other) (is_held ids q) (ap (bytes_eq q) (bytes_eq-true id other same))
+          elim (bytes_eq id other) as (λ b. bytes_eq id other ≡ b → is_held (if b then id ∷ ids else id ∷ other ∷ ids) q
+          ≡ (bytes_eq q id || (bytes_eq q other || is_held ids q))) [
+            | true ↦ λ same. or-same (bytes_eq q id) (bytes_eq q other) (is_held ids q)
+                (ap (bytes_eq q) (bytes_eq-true id other same))
             | false ↦ λ apart. refl
           ] refl
     ]
 
-pub added-is : (old : List (List ℕ)) (id : List ℕ) (new : List (List ℕ)) → AreStrictlySorted old → HasAdded old id new → new ≡ with_id id old
-added-is old id new rise added = held-unique new (with_id id old) added.ordered (rising-more id old rise) (λ q. added.each q ∙ sym (held-more id old q))
+pub added-is : (old : List (List ℕ)) (id : List ℕ) (new : List (List ℕ)) → AreStrictlySorted old → HasAdded old id new
+    → new ≡ with_id id old
+added-is old id new rise added = held-unique new (with_id id old) added.ordered (rising-more id old rise)
+    (λ q. added.each q ∙ sym (held-more id old q))
 
 -- ---- one fewer
-held-fewer : (id : List ℕ) (ids : List (List ℕ)) (q : List ℕ) → is_held (without_id id ids) q ≡ (not (bytes_eq q id) && is_held ids q)
+held-fewer : (id : List ℕ) (ids : List (List ℕ)) (q : List ℕ)
+    → is_held (without_id id ids) q ≡ (not (bytes_eq q id) && is_held ids q)
 held-fewer id ids q =
     any-filter_same (bytes_eq q) (λ other. not (bytes_eq other id)) (not (bytes_eq q id))
     (λ other same. ap (λ k. not (bytes_eq k id)) (sym (bytes_eq-true q other same))) ids
 
-pub dropped-is : (old : List (List ℕ)) (id : List ℕ) (new : List (List ℕ)) → AreStrictlySorted old → HasDropped old id new → new ≡ without_id id old
+pub dropped-is : (old : List (List ℕ)) (id : List ℕ) (new : List (List ℕ)) → AreStrictlySorted old
+    → HasDropped old id new → new ≡ without_id id old
 dropped-is old id new rise dropped =
-    held-unique new (without_id id old) dropped.ordered (IsStrictlySortedBy-filter (slice_cmp nat_cmp) (λ other. not (bytes_eq other id)) old rise)
+    held-unique new (without_id id old) dropped.ordered
+    (IsStrictlySortedBy-filter (slice_cmp nat_cmp) (λ other. not (bytes_eq other id)) old rise)
     (λ q. dropped.each q ∙ sym (held-fewer id old q))

@@ -22,7 +22,8 @@ told-of scene taken stored live undo redo =
     object_text ((codes "scene", scene) ∷ (codes "taken", decimal taken) ∷ (codes "stored", decimal stored)
     ∷ (codes "live", decimal live) ∷ (codes "undo", decimal undo) ∷ (codes "redo", decimal redo) ∷ [])
 
-replica-same : (head : Heading) (s : Seat) (report : ReplicaReport) → IsReplicaReport head s report → replica_text report ≡ seat_text head s
+replica-same : (head : Heading) (s : Seat) (report : ReplicaReport) → IsReplicaReport head s report
+    → replica_text report ≡ seat_text head s
 unfolding replica_text
 replica-same head s report is =
     let scene = scene_text head (shown_at s) in
@@ -34,15 +35,18 @@ replica-same head s report is =
     ∙ (ap (λ x. told-of scene x report.stored report.live report.undo report.redo) is.taken
     ∙ (ap (λ x. told-of scene taken x report.live report.undo report.redo) is.stored
     ∙ (ap (λ x. told-of scene taken stored x report.undo report.redo) is.live
-    ∙ (ap (λ x. told-of scene taken stored live x report.redo) is.undo ∙ ap (λ x. told-of scene taken stored live undo x) is.redo))))
+    ∙ (ap (λ x. told-of scene taken stored live x report.redo) is.undo
+    ∙ ap (λ x. told-of scene taken stored live undo x) is.redo))))
 
-replicas-same : (head : Heading) (seats : List Seat) (reports : List ReplicaReport) → AreReplicaReports head seats reports
+replicas-same : (head : Heading) (seats : List Seat) (reports : List ReplicaReport)
+    → AreReplicaReports head seats reports
     → map replica_text reports ≡ map (seat_text head) seats
 replicas-same head [] [] are = refl
 replicas-same head [] (report ∷ reports) are = absurd are
 replicas-same head (s ∷ seats) [] are = absurd are
 replicas-same head (s ∷ seats) (report ∷ reports) are =
-    ap₂ (λ (t : List ℕ) (ts : List (List ℕ)). t ∷ ts) (replica-same head s report are.0) (replicas-same head seats reports are.1)
+    ap₂ (λ (t : List ℕ) (ts : List (List ℕ)). t ∷ ts) (replica-same head s report are.0)
+    (replicas-same head seats reports are.1)
 
 abbrev world-of : List (List ℕ) → ℕ → List (List ℕ) → ℕ → List ℕ
 world-of replicas messages refused clashes =
@@ -54,11 +58,13 @@ pub report-told : (session : Session) (w : World) (report : Report) → IsReport
 unfolding report_text
 report-told session w report is =
     let replicas = map (seat_text (head_of session)) w.seats in
-    ap (λ x. world-of x report.messages (map refused_text report.refused) report.clashes) (replicas-same (head_of session) w.seats report.replicas is.replicas)
+    ap (λ x. world-of x report.messages (map refused_text report.refused) report.clashes)
+    (replicas-same (head_of session) w.seats report.replicas is.replicas)
     ∙ (ap (λ x. world-of replicas x (map refused_text report.refused) report.clashes) is.messages
     ∙ ap (λ x. world-of replicas (length w.messages) (map refused_text x) report.clashes) is.refused)
 
-pub report-is_text : (session : Session) (report : Report) (text : List ℕ) → IsReportOf session (last_world session) report
+pub report-is_text : (session : Session) (report : Report) (text : List ℕ)
+    → IsReportOf session (last_world session) report
     → text ≡ report_text report → IsReportText session text
 report-is_text session report text is made = record {
   clashes = report.clashes;
@@ -66,9 +72,12 @@ report-is_text session report text is made = record {
   told = made ∙ report-told session (last_world session) report is;
 }
 
-pub report-once : (session : Session) (text other : List ℕ) → IsReportText session text → IsReportText session other → text ≡ other
+pub report-once : (session : Session) (text other : List ℕ) → IsReportText session text → IsReportText session other
+    → text ≡ other
 report-once session text other a b =
-    a.told ∙ (ap (world_text session (last_world session)) (clashes-same [] (all_elements session (last_world session)) a.clashes b.clashes a.counted b.counted) ∙ sym b.told)
+    a.told
+    ∙ (ap (world_text session (last_world session)) (clashes-same [] (all_elements session (last_world session))
+    a.clashes b.clashes a.counted b.counted) ∙ sym b.told)
 
 -- ---- each list of elements has a number of clashes
 some-same : (a b : ElementValue) → Some a ≡ Some b → a ≡ b

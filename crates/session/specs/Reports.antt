@@ -18,9 +18,9 @@ use Rattle.session.specs.Worlds.{Seat, World, all_elements, head_of}
 abbrev pub shown_at : Seat → List ElementValue
 shown_at s = shown (live_elements s.state.stored)
 
--- The report hands over the replica; the text is that of the scene that it shows, whose keys rise and whose elements
--- agree on their links, frames and groups; and the numbers are those of its updates, its stored and its live elements,
--- and its entries to undo and to redo.
+-- The report hands over the replica; the text is that of the scene that it shows, whose keys rise
+-- and whose elements agree on their links, frames and groups; and the numbers are those of its
+-- updates, its stored and its live elements, and its entries to undo and to redo.
 pub record IsReplicaReport (head : Heading) (s : Seat) (report : ReplicaReport) : Type 0 where
   pub replica : ReplicaStandsFor report.replica s.state
   pub scene : report.scene ≡ scene_text head (shown_at s)

@@ -28,15 +28,18 @@ refusal_name (Some (VersionFull name)) = quote name
 
 -- the members that tell a refusal, and those that tell of the event which it is of
 abbrev pub refusal_members : Option Refusal → List Pair
-refusal_members why = (codes "refusal", quote (refusal_words why)) ∷ (codes "name", refusal_name why) ∷ []
+refusal_members why =
+    (codes "refusal", quote (refusal_words why)) ∷ (codes "name", refusal_name why) ∷ []
 
 abbrev pub refused_members : RefusedEvent → List Pair
 refused_members refused = (codes "event", decimal refused.event) ∷ refusal_members refused.why
 
 abbrev pub replica_members : ReplicaReport → List Pair
 replica_members report =
-    (codes "scene", report.scene) ∷ (codes "taken", decimal report.taken) ∷ (codes "stored", decimal report.stored)
-    ∷ (codes "live", decimal report.live) ∷ (codes "undo", decimal report.undo) ∷ (codes "redo", decimal report.redo) ∷ []
+    (codes "scene", report.scene) ∷ (codes "taken", decimal report.taken)
+    ∷ (codes "stored", decimal report.stored)
+    ∷ (codes "live", decimal report.live) ∷ (codes "undo", decimal report.undo)
+    ∷ (codes "redo", decimal report.redo) ∷ []
 
 -- the texts of the report on a refused event, and of that on a replica
 unfoldable pub refused_text : RefusedEvent → List ℕ
@@ -47,8 +50,10 @@ replica_text report = object_text (replica_members report)
 
 abbrev pub report_members : Report → List Pair
 report_members report =
-    (codes "replicas", array_text (map replica_text report.replicas)) ∷ (codes "messages", decimal report.messages)
-    ∷ (codes "refused", array_text (map refused_text report.refused)) ∷ (codes "clashes", decimal report.clashes) ∷ []
+    (codes "replicas", array_text (map replica_text report.replicas))
+    ∷ (codes "messages", decimal report.messages)
+    ∷ (codes "refused", array_text (map refused_text report.refused))
+    ∷ (codes "clashes", decimal report.clashes) ∷ []
 
 -- the compact text of a report
 unfoldable pub report_text : Report → List ℕ

@@ -1,4 +1,5 @@
--- The world of a session: its replicas, the messages between them, and what each event makes of it. This project's own.
+-- The world of a session: its replicas, the messages between them, and what each event makes of it.
+-- This project's own.
 use Rattle.std.specs.Prelude.{ℕ, ◌+◌, ◌*◌, List, [], ◌∷◌, ◌++◌, Option, Some, None, Result, Ok, Err, not, filter, flat_map, replicate, take, bytes_eq, option_to_list, slice_get, slice_index_or, slice_set}
 use Rattle.std.specs.Option.{option_map_or}
 use Rattle.rand_pcg.specs.Lcg.{Lcg}
@@ -25,14 +26,14 @@ use Rattle.session.specs.declared.outcome.Outcome.{Outcome}
 use Rattle.session.specs.declared.outcome.Outcome.TheVariants.{Given, Refused}
 use Rattle.session.specs.declared.report.RefusedEvent.{RefusedEvent}
 
--- A replica, and the updates that it took, one after another: opening elements, its own changed ones, and delivered
--- ones whose ids weren't held.
+-- A replica, and the updates that it took, one after another: opening elements, its own changed
+-- ones, and delivered ones whose ids weren't held.
 pub record Seat : Type 0 where
   pub state : State
   pub taken : List ElementValue
 
--- The replicas in their order; the messages that were made; what the nonces are drawn from; how many events there were;
--- and those that were refused.
+-- The replicas in their order; the messages that were made; what the nonces are drawn from; how
+-- many events there were; and those that were refused.
 pub record World : Type 0 where
   pub seats : List Seat
   pub messages : List (List ElementValue)
@@ -46,7 +47,11 @@ fresh = record { state = nothing; taken = [] }
 
 -- after a list was delivered: the elements whose ids aren't held are taken
 unfoldable pub delivered : List ElementValue → Seat → Seat
-delivered list s = record { state = after_delivery list s.state; taken = s.taken ++ free_elements s.state.held list }
+delivered list s = record {
+  state = after_delivery list s.state;
+  taken =
+      s.taken ++ free_elements s.state.held list;
+}
 
 -- the held ids, in the order of their bytes, with one more, and without one
 abbrev pub with_id : List ℕ → List (List ℕ) → List (List ℕ)
@@ -58,7 +63,8 @@ without_id id ids = filter (λ other. not (bytes_eq other id)) ids
 abbrev pub holding : List (List ℕ) → Seat → Seat
 holding ids s = record s { state = record s.state { held = ids } }
 
--- what a command comes to; and a step of undo or redo, which is refused without a cause where nothing comes
+-- what a command comes to; and a step of undo or redo, which is refused without a cause where
+-- nothing comes
 abbrev pub of_command : Result (List ElementValue) Refusal → Outcome
 of_command (Ok given) = Given given
 of_command (Err refusal) = Refused (Some refusal)
@@ -75,7 +81,11 @@ pub record Act : Type 0 where
 
 unfoldable pub change_on : Command → Capture → ℕ → ℕ → State → Act
 change_on command capture time nonce s =
-    record { state = after_change command capture time nonce s; outcome = of_command (outcome_on command time nonce s) }
+    record {
+      state = after_change command capture time nonce s;
+      outcome =
+          of_command (outcome_on command time nonce s);
+    }
 
 unfoldable pub turn_by : Direction → ℕ → ℕ → State → Act
 turn_by direction time nonce s = record {
@@ -99,7 +109,8 @@ seat_at w at = slice_index_or w.seats at fresh
 abbrev pub state_at : World → ℕ → State
 state_at w at = (seat_at w at).state
 
--- the nonce of the next change, undo or redo at a replica: the word, and the replica's number in the last six bits
+-- the nonce of the next change, undo or redo at a replica: the word, and the replica's number in
+-- the last six bits
 abbrev pub nonce_at : World → ℕ → ℕ
 nonce_at w at = 64 * next_word w.generator + at
 
@@ -108,8 +119,8 @@ abbrev pub with_refused : ℕ → Outcome → List RefusedEvent → List Refused
 with_refused event (Given elements) refused = refused
 with_refused event (Refused why) refused = refused ++ record { event = event; why = why } ∷ []
 
--- A replica made a change, an undo or a redo, or was refused it: a word was drawn, and the elements that came of it,
--- maybe none, are a message.
+-- A replica made a change, an undo or a redo, or was refused it: a word was drawn, and the elements
+-- that came of it, maybe none, are a message.
 abbrev pub after_act : ℕ → Act → World → World
 after_act at act w = record {
   seats = slice_set w.seats at (acted act (seat_at w at));
@@ -141,7 +152,8 @@ all_picked messages picks = flat_map (picked messages) picks
 abbrev pub after_event : Event → World → World
 after_event (Change at time capture command) w =
     after_act at (change_on command capture time (nonce_at w at) (state_at w at)) w
-after_event (Update elements) w = record w { messages = w.messages ++ elements ∷ []; events = w.events + 1 }
+after_event (Update elements) w =
+    record w { messages = w.messages ++ elements ∷ []; events = w.events + 1 }
 after_event (Deliver to picks) w =
     after_seat to (delivered (all_picked w.messages picks) (seat_at w to)) w
 after_event (Hold at id) w =
@@ -162,7 +174,8 @@ opening_elements session = option_map_or (λ (scene : Scene). scene.elements) se
 
 abbrev pub head_of : Session → Heading
 head_of session =
-    option_map_or (λ (scene : Scene). scene.head) session.scene (record { source = None; app_state = []; files = [] })
+    option_map_or (λ (scene : Scene). scene.head) session.scene
+    (record { source = None; app_state = []; files = [] })
 
 -- the world before the first event: each replica was delivered the elements of the scene
 abbrev pub opened : Session → World

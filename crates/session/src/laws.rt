@@ -16,7 +16,8 @@ pub fn all_events_lead_to_the_last_world()
         → world_after session (length session.events) ≡ last_world session }
 {}
 
-/// After every event each replica stores the best of the updates that it took, for each id, and nothing else.
+/// After every event each replica stores the best of the updates that it took, for each id, and
+/// nothing else.
 pub fn replicas_store_what_they_took()
     ensures { (session : Session) (count : ℕ) (s : Seat)
         → Contains (world_after session count).seats s → AreStored s.taken s.state.stored }
@@ -29,7 +30,8 @@ pub fn taken_updates_were_made()
         → Contains (all_elements session (world_after session count)) e }
 {}
 
-/// Replicas that took the same updates, in whatever order, grouping and repetition, store and show the same.
+/// Replicas that took the same updates, in whatever order, grouping and repetition, store and show
+/// the same.
 pub fn replicas_converge()
     ensures stored { (session : Session) (count : ℕ) (s other : Seat)
         → Contains (world_after session count).seats s

@@ -1,4 +1,5 @@
-//! Recorded sessions are replayed: replicas change apart and are told of each other's changes; and the report of it.
+//! Recorded sessions are replayed: replicas change apart and are told of each other's changes; and
+//! the report of it.
 #![tactic(auto)]
 
 mod clashes;

@@ -11,8 +11,8 @@ use crate::world::World;
 use session_text::Session;
 use std::alloc::{AllocError, Global};
 
-/// Lets the events of a session happen in their order, and reports what came of it. Fails only for want of memory; a
-/// count that doesn't fit counts as such.
+/// Lets the events of a session happen in their order, and reports what came of it. Fails only for
+/// want of memory; a count that doesn't fit counts as such.
 pub fn replay(alloc: Global, session: &Session) -> Result<Report, AllocError>
     requires { IsSession session.now }
     ensures { IfOk result (IsReportOf session.now (last_world session.now)) }

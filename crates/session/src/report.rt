@@ -12,8 +12,8 @@ pub struct Report {
     pub messages: u64,
     /// The events that were refused, in their order.
     pub refused: List<RefusedEvent>,
-    /// How many elements of the scene and of messages have the id, version and nonce of an earlier one and aren't the
-    /// same.
+    /// How many elements of the scene and of messages have the id, version and nonce of an earlier
+    /// one and aren't the same.
     pub clashes: u64,
 }
 

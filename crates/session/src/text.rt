@@ -91,8 +91,8 @@ fn push_event(out: &mut Vec<u8>, event: &RefusedEvent) -> Result<(), AllocError>
     Ok(())
 }
 
-/// Appends the text of a refusal: what it is called, and the name that it holds, or null; where nothing is given, that
-/// there was nothing to undo or to redo. Fails only for want of memory.
+/// Appends the text of a refusal: what it is called, and the name that it holds, or null; where
+/// nothing is given, that there was nothing to undo or to redo. Fails only for want of memory.
 pub fn push_refusal(out: &mut Vec<u8>, why: &Option<Refusal>) -> Result<(), AllocError>
     ensures { OnOk result
         (out.new.items ≡ out.old.items ++ object_text (texts.refusal_members why.now)) }

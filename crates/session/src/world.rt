@@ -22,8 +22,8 @@ use rand_pcg::Pcg32;
 use session_text::{Event, Pick, Session};
 use std::alloc::{AllocError, Global};
 
-/// The replicas in their order, the messages that were made, what the nonces are drawn from, how many events there
-/// were, and those that were refused.
+/// The replicas in their order, the messages that were made, what the nonces are drawn from, how
+/// many events there were, and those that were refused.
 #[derive(Drop)]
 pub(crate) struct World {
     pub(crate) seats: Vec<Seat>,
@@ -177,8 +177,8 @@ impl World {
     }
 }
 
-/// The nonce of the next change, undo or redo at a replica: a word is drawn, and the last six bits are the replica's
-/// number.
+/// The nonce of the next change, undo or redo at a replica: a word is drawn, and the last six bits
+/// are the replica's number.
 fn draw(generator: &mut Pcg32, at: u64) -> u64
     requires { at < 64 }
     ensures nonce { result ≡ 64 * next_word generator.old + at }

@@ -36,24 +36,32 @@ use Rattle.session_laws.proofs.SoundWorlds.{IsKeptWorld, IsKeptEvent, seat-kept,
 abbrev pub unheld : State → State
 unheld s = record s { held = [] }
 
-unheld-noted : (entry : List Pair) (s : State) (snapshot : List ElementValue) → unheld (record (noted entry s) { snapshot = snapshot }) ≡ record (noted entry (unheld s)) { snapshot = snapshot }
+unheld-noted : (entry : List Pair) (s : State) (snapshot : List ElementValue)
+    → unheld (record (noted entry s) { snapshot = snapshot }) ≡ record (noted entry (unheld s)) { snapshot = snapshot }
 unheld-noted [] s snapshot = refl
 unheld-noted (pair ∷ entry) s snapshot = refl
 
 unheld-changed : (given : List ElementValue) (s : State) → unheld (changed given s) ≡ changed given (unheld s)
-unheld-changed given s = unheld-noted (pending s.snapshot (taken_all given s.stored)) (stored_with given s) (taken_all given s.stored)
+unheld-changed given s =
+    unheld-noted (pending s.snapshot (taken_all given s.stored)) (stored_with given s) (taken_all given s.stored)
 
-noted-entries : (direction : Direction) (entry : List Pair) (s : State) → entries direction (noted entry (unheld s)) ≡ entries direction (noted entry s)
+noted-entries : (direction : Direction) (entry : List Pair) (s : State)
+    → entries direction (noted entry (unheld s)) ≡ entries direction (noted entry s)
 noted-entries direction [] s = refl
 noted-entries direction (pair ∷ entry) s = refl
 
-pub unheld-turn_on : (direction : Direction) (time nonce : ℕ) (s : State) → turn_on direction time nonce (unheld s) ≡ turn_on direction time nonce s
+pub unheld-turn_on : (direction : Direction) (time nonce : ℕ) (s : State)
+    → turn_on direction time nonce (unheld s) ≡ turn_on direction time nonce s
 unheld-turn_on direction time nonce s =
-    λ i. step s.stored time nonce (noted-entries direction (pending s.snapshot s.stored) s i) (noted-entries (other direction) (pending s.snapshot s.stored) s i)
+    λ i. step s.stored time nonce (noted-entries direction (pending s.snapshot s.stored) s i)
+    (noted-entries (other direction) (pending s.snapshot s.stored) s i)
 
-unheld-turned : (direction : Direction) (time nonce : ℕ) (s : State) (turn : Turn) → turn_on direction time nonce s ≡ Some (Ok turn) → unheld (after_turn direction time nonce s) ≡ after_turn direction time nonce (unheld s)
+unheld-turned : (direction : Direction) (time nonce : ℕ) (s : State) (turn : Turn)
+    → turn_on direction time nonce s ≡ Some (Ok turn) → unheld (after_turn direction time nonce s)
+    ≡ after_turn direction time nonce (unheld s)
 unheld-turned direction time nonce s turn found =
-    ap (λ o. unheld (after_turn_of direction o s)) found ∙ sym (ap (λ o. after_turn_of direction o (unheld s)) (unheld-turn_on direction time nonce s ∙ found))
+    ap (λ o. unheld (after_turn_of direction o s)) found
+    ∙ sym (ap (λ o. after_turn_of direction o (unheld s)) (unheld-turn_on direction time nonce s ∙ found))
 
 -- ---- what a command gives is a change of what is stored
 not-deleted : (b : Bool) → not b ≡ true → b ≡ false
@@ -61,20 +69,23 @@ not-deleted true h = absurd (cc)
 not-deleted false h = refl
 
 module _ (s : State) (kept : IsKept s) (command : Command) (time nonce : ℕ)
-    (limits : IsWithinLimits command) (written : IsWrittenCommand command) (early : time ≤ greatest_whole) (small : nonce ≤ greatest_whole) where
+    (limits : IsWithinLimits command) (written : IsWrittenCommand command) (early : time ≤ greatest_whole)
+    (small : nonce ≤ greatest_whole) where
   module _ (given : List ElementValue) (told : outcome_on command time nonce s ≡ Ok given) where
     are-given : AreGiven s.stored given
     are-given = command-given s kept command time nonce given limits written early small told
 
-    seen-alters : (e : ElementValue) (o : Option ElementValue) → Contains given e → element_of s.stored e.id ≡ o → IsSomeAnd o (λ (old : ElementValue). (is_live old ≡ true) × (unstamped old ≢ unstamped e)) → Alters o e
+    seen-alters : (e : ElementValue) (o : Option ElementValue) → Contains given e → element_of s.stored e.id ≡ o
+        → IsSomeAnd o (λ (old : ElementValue). (is_live old ≡ true) × (unstamped old ≢ unstamped e)) → Alters o e
     seen-alters e None c found seen = absurd seen
     seen-alters e (Some old) c found seen = (not-deleted old.deleted seen.0, are-given.kinds e old c found, seen.1)
 
     given-alters : (e : ElementValue) → Contains given e → Alters (element_of s.stored e.id) e
-    given-alters e c = elim (given-seen s.stored (shown (live_elements s.stored)) command time nonce given told kept.stored_rise e c) [
-      | inl change ↦ seen-alters e (element_of s.stored e.id) c refl change
-      | inr new ↦ subst (λ o. Alters o e) (sym new.unknown) (not-deleted e.deleted new.live)
-    ]
+    given-alters e c =
+        elim (given-seen s.stored (shown (live_elements s.stored)) command time nonce given told kept.stored_rise e c) [
+          | inl change ↦ seen-alters e (element_of s.stored e.id) c refl change
+          | inr new ↦ subst (λ o. Alters o e) (sym new.unknown) (not-deleted e.deleted new.live)
+        ]
 
     pub given-changes : given ≢ [] → IsStoredChange s.stored given
     given-changes some = record {
@@ -86,24 +97,29 @@ module _ (s : State) (kept : IsKept s) (command : Command) (time nonce : ℕ)
     }
 
   -- a change that is captured at once and gives some elements
-  pub change-done : given_of (change_on command Now time nonce s).outcome ≢ [] → (given : List ElementValue) × ((change_on command Now time nonce s).state ≡ changed given s) × IsStoredChange s.stored given
+  pub change-done : given_of (change_on command Now time nonce s).outcome ≢ [] → (given : List ElementValue)
+      × ((change_on command Now time nonce s).state ≡ changed given s) × IsStoredChange s.stored given
   unfolding change_on
   change-done gives = by (outcome_on command time nonce s) refl gives
     where
-      by : (o : Result (List ElementValue) Refusal) → outcome_on command time nonce s ≡ o → given_of (of_command o) ≢ [] → (given : List ElementValue) × (after_outcome Now o s ≡ changed given s) × IsStoredChange s.stored given
+      by : (o : Result (List ElementValue) Refusal) → outcome_on command time nonce s ≡ o → given_of (of_command o) ≢ []
+          → (given : List ElementValue) × (after_outcome Now o s ≡ changed given s) × IsStoredChange s.stored given
       by (Ok given) told some = (given, refl, given-changes given told some)
       by (Err refusal) told some = absurd (some refl)
 
-turn_by-state : (direction : Direction) (time nonce : ℕ) (s : State) → (turn_by direction time nonce s).state ≡ after_turn direction time nonce s
+turn_by-state : (direction : Direction) (time nonce : ℕ) (s : State)
+    → (turn_by direction time nonce s).state ≡ after_turn direction time nonce s
 unfolding turn_by
 turn_by-state direction time nonce s = refl
 
 -- what a turn is as an event
-turn-within : (direction : Direction) (replicas at time : ℕ) → IsKeptEvent replicas (chosen direction (Undo at time) (Redo at time)) → time ≤ greatest_whole
+turn-within : (direction : Direction) (replicas at time : ℕ)
+    → IsKeptEvent replicas (chosen direction (Undo at time) (Redo at time)) → time ≤ greatest_whole
 turn-within directions.Undo replicas at time is = is.within
 turn-within directions.Redo replicas at time is = is.within
 
-turn-after : (direction : Direction) (at time : ℕ) (w : World) → after_event (chosen direction (Undo at time) (Redo at time)) w ≡ after_turn_at direction at time w
+turn-after : (direction : Direction) (at time : ℕ) (w : World)
+    → after_event (chosen direction (Undo at time) (Redo at time)) w ≡ after_turn_at direction at time w
 turn-after directions.Undo at time w = refl
 turn-after directions.Redo at time w = refl
 
@@ -124,17 +140,22 @@ module _ (replicas : ℕ) (few : replicas ≤ 64) (at : ℕ) (among : at < repli
     other-put other s apart = get_or-set_other w.seats other at s fresh (λ same. apart (sym same))
 
     -- what is put at any replica shows at this one only if it is put there
-    put-unheld : (other : ℕ) (s : Seat) → (other ≡ at → unheld s.state ≡ unheld (state_at w at)) → unheld (get_or (set w.seats other s) at fresh).state ≡ unheld (state_at w at)
+    put-unheld : (other : ℕ) (s : Seat) → (other ≡ at → unheld s.state ≡ unheld (state_at w at))
+        → unheld (get_or (set w.seats other s) at fresh).state ≡ unheld (state_at w at)
     put-unheld other s here = elim (cases_Bool (other == at)) [
       | inl t ↦
           let same = eqb-true other at t in
-          ap (λ (i : ℕ). unheld (get_or (set w.seats i s) at fresh).state) same ∙ ap (λ (seat : Seat). unheld seat.state) (own-put s) ∙ here same
+          ap (λ (i : ℕ). unheld (get_or (set w.seats i s) at fresh).state) same
+          ∙ ap (λ (seat : Seat). unheld seat.state) (own-put s) ∙ here same
       | inr f ↦ ap (λ (seat : Seat). unheld seat.state) (other-put other s (eqb-false other at f))
     ]
 
-    keeps-away : (event : Event) → KeepsAway at event w → unheld (state_at (after_event event w) at) ≡ unheld (state_at w at)
+    keeps-away : (event : Event) → KeepsAway at event w → unheld (state_at (after_event event w) at)
+        ≡ unheld (state_at w at)
     keeps-away (Change other time capture command) apart =
-        ap (λ (seat : Seat). unheld seat.state) (other-put other (acted (change_on command capture time (nonce_at w other) (state_at w other)) (seat_at w other)) apart)
+        ap (λ (seat : Seat). unheld seat.state)
+        (other-put other (acted (change_on command capture time (nonce_at w other) (state_at w other))
+        (seat_at w other)) apart)
     keeps-away (Update elements) away = refl
     keeps-away (Deliver to picks) none =
         let list : List ElementValue = all_picked w.messages picks in
@@ -143,13 +164,19 @@ module _ (replicas : ℕ) (few : replicas ≤ 64) (at : ℕ) (among : at < repli
         ∙ ap (λ (i : ℕ). after_delivery list (state_at w i)) same
         ∙ empty-stays (state_at w at) list own.stored_rise (none same)))
     keeps-away (Hold other id) away =
-        put-unheld other (holding (with_id id (state_at w other).held) (seat_at w other)) (λ same. ap (λ (i : ℕ). unheld (state_at w i)) same)
+        put-unheld other (holding (with_id id (state_at w other).held) (seat_at w other))
+        (λ same. ap (λ (i : ℕ). unheld (state_at w i)) same)
     keeps-away (Release other id) away =
-        put-unheld other (holding (without_id id (state_at w other).held) (seat_at w other)) (λ same. ap (λ (i : ℕ). unheld (state_at w i)) same)
+        put-unheld other (holding (without_id id (state_at w other).held) (seat_at w other))
+        (λ same. ap (λ (i : ℕ). unheld (state_at w i)) same)
     keeps-away (Undo other time) apart =
-        ap (λ (seat : Seat). unheld seat.state) (other-put other (acted (turn_by directions.Undo time (nonce_at w other) (state_at w other)) (seat_at w other)) apart)
+        ap (λ (seat : Seat). unheld seat.state)
+        (other-put other (acted (turn_by directions.Undo time (nonce_at w other) (state_at w other))
+        (seat_at w other)) apart)
     keeps-away (Redo other time) apart =
-        ap (λ (seat : Seat). unheld seat.state) (other-put other (acted (turn_by directions.Redo time (nonce_at w other) (state_at w other)) (seat_at w other)) apart)
+        ap (λ (seat : Seat). unheld seat.state)
+        (other-put other (acted (turn_by directions.Redo time (nonce_at w other) (state_at w other))
+        (seat_at w other)) apart)
 
     small : nonce_at w at ≤ greatest_whole
     small = nonce-small w at (omega arith)
@@ -159,11 +186,13 @@ module _ (replicas : ℕ) (few : replicas ≤ 64) (at : ℕ) (among : at < repli
     acted-here act = ap (λ (seat : Seat). seat.state) (own-put (acted act (seat_at w at)))
 
     change-here : (event : Event) → IsKeptEvent replicas event → IsChangeAt at event w
-        → (given : List ElementValue) × (unheld (state_at (after_event event w) at) ≡ changed given (unheld (state_at w at))) × IsStoredChange (state_at w at).stored given
+        → (given : List ElementValue) × (unheld (state_at (after_event event w) at)
+        ≡ changed given (unheld (state_at w at))) × IsStoredChange (state_at w at).stored given
     change-here event is change =
         let it = subst (IsKeptEvent replicas) change.is is in
         let act : Act = change_on change.command Now change.time (nonce_at w at) (state_at w at) in
-        let done = change-done (state_at w at) own change.command change.time (nonce_at w at) it.within.1 it.brings it.within.0 small change.gives in (
+        let done = change-done (state_at w at) own change.command change.time (nonce_at w at) it.within.1 it.brings
+        it.within.0 small change.gives in (
           done.0,
           ap (λ (e : Event). unheld (state_at (after_event e w) at)) change.is
               ∙ ap unheld (acted-here act ∙ done.1)
@@ -172,7 +201,9 @@ module _ (replicas : ℕ) (few : replicas ≤ 64) (at : ℕ) (among : at < repli
         )
 
     turn-here : (direction : Direction) (event : Event) → IsKeptEvent replicas event → IsTurnAt direction at event w
-        → (call : Call) × (unheld (state_at (after_event event w) at) ≡ after_turn direction call.time call.nonce (unheld (state_at w at))) × IsDone call (turn_on direction call.time call.nonce (unheld (state_at w at)))
+        → (call : Call) × (unheld (state_at (after_event event w) at)
+        ≡ after_turn direction call.time call.nonce (unheld (state_at w at)))
+        × IsDone call (turn_on direction call.time call.nonce (unheld (state_at w at)))
     turn-here direction event is turn =
         let s : State = state_at w at in
         let nonce : ℕ = nonce_at w at in (
@@ -208,7 +239,8 @@ module _ (replicas : ℕ) (few : replicas ≤ 64) (at : ℕ) (among : at < repli
   abbrev pub comes_to : List Event → World → State
   comes_to events w = unheld (state_at (after_events events w) at)
 
-  pub changes-lead : (events : List Event) (w : World) (n : ℕ) → AllByRecursion (IsKeptEvent replicas) events → IsKeptWorld replicas w → AreChangesAt at events w n → ChangesLead n (unheld (state_at w at)) (comes_to events w)
+  pub changes-lead : (events : List Event) (w : World) (n : ℕ) → AllByRecursion (IsKeptEvent replicas) events
+      → IsKeptWorld replicas w → AreChangesAt at events w n → ChangesLead n (unheld (state_at w at)) (comes_to events w)
   changes-lead [] w zero all kept are = record { givens = []; many = refl; changes = tt; comes = refl }
   changes-lead [] w (suc n) all kept are = absurd are
   changes-lead (event ∷ events) w zero all kept are =
@@ -218,12 +250,20 @@ module _ (replicas : ℕ) (few : replicas ≤ 64) (at : ℕ) (among : at < repli
       let here = change-here w kept event all.0 are.0 in
       let rest = subst (λ s. ChangesLead n s (comes_to events (after_event event w))) here.1
       (changes-lead events (after_event event w) n all.1 (event-kept replicas few event w all.0 kept) are.1) in
-      record { givens = here.0 ∷ rest.givens; many = ap suc rest.many; changes = (here.2, rest.changes); comes = rest.comes }
+      record {
+        givens = here.0 ∷ rest.givens;
+        many = ap suc rest.many;
+        changes = (here.2, rest.changes);
+        comes =
+            rest.comes;
+      }
   changes-lead (event ∷ events) w (suc n) all kept (inr are) =
       subst (λ s. ChangesLead (suc n) s (comes_to events (after_event event w))) (keeps-away w kept event are.0)
       (changes-lead events (after_event event w) (suc n) all.1 (event-kept replicas few event w all.0 kept) are.1)
 
-  pub turns-lead : (direction : Direction) (events : List Event) (w : World) (n : ℕ) → AllByRecursion (IsKeptEvent replicas) events → IsKeptWorld replicas w → AreAmong (IsTurnAt direction) at events w n → TurnsLead direction n (unheld (state_at w at)) (comes_to events w)
+  pub turns-lead : (direction : Direction) (events : List Event) (w : World) (n : ℕ)
+      → AllByRecursion (IsKeptEvent replicas) events → IsKeptWorld replicas w
+      → AreAmong (IsTurnAt direction) at events w n → TurnsLead direction n (unheld (state_at w at)) (comes_to events w)
   turns-lead direction [] w zero all kept are = record { calls = []; many = refl; done = tt; comes = refl }
   turns-lead direction [] w (suc n) all kept are = absurd are
   turns-lead direction (event ∷ events) w zero all kept are =
@@ -236,4 +276,5 @@ module _ (replicas : ℕ) (few : replicas ≤ 64) (at : ℕ) (among : at < repli
       record { calls = here.0 ∷ rest.calls; many = ap suc rest.many; done = (here.2, rest.done); comes = rest.comes }
   turns-lead direction (event ∷ events) w (suc n) all kept (inr are) =
       subst (λ s. TurnsLead direction (suc n) s (comes_to events (after_event event w))) (keeps-away w kept event are.0)
-      (turns-lead direction events (after_event event w) (suc n) all.1 (event-kept replicas few event w all.0 kept) are.1)
+      (turns-lead direction events (after_event event w) (suc n) all.1 (event-kept replicas few event w all.0 kept)
+      are.1)

@@ -48,9 +48,11 @@ scalar-back b a = elim (cases_Bool (scalars_same b a)) [
   | inr f ↦ ap (λ same. if same then a else b) f
 ]
 
-module _ {T : Type 0} (same : T → T → Bool) (exact : (a b : T) → same a b ≡ true → a ≡ b) (itself : (a : T) → same a a ≡ true) where
+module _ {T : Type 0} (same : T → T → Bool) (exact : (a b : T) → same a b ≡ true → a ≡ b) (itself : (a : T)
+    → same a a ≡ true) where
   joined-all : (b a : List T) → joined same b a b ≡ a
-  joined-all b a = ap (λ t. if t then a else filter (stays same b a) b ++ first_occurrences same (filter (is_gained same b b) a)) (are_same-same same itself b)
+  joined-all b a = ap (λ t. if t then a else filter (stays same b a) b
+      ++ first_occurrences same (filter (is_gained same b b) a)) (are_same-same same itself b)
 
   list-back : (b a : List T) → undone_list same b a a ≡ b
   list-back b a = elim (cases_Bool (are_same same b a)) [
@@ -58,15 +60,18 @@ module _ {T : Type 0} (same : T → T → Bool) (exact : (a b : T) → same a b 
     | inr f ↦ ap (λ s. if s then a else joined same a b a) f ∙ joined-all a b
   ]
 
-undone-unstamped : (pair : Pair) (now : ElementValue) → unstamped (undone pair now) ≡ unstamped (undone pair (unstamped now))
+undone-unstamped : (pair : Pair) (now : ElementValue) → unstamped (undone pair now)
+    ≡ unstamped (undone pair (unstamped now))
 unfolding undone
 undone-unstamped pair now =
-    elim (same_kind pair.after.kind now.kind) as (λ b. unstamped (cond b (undone_in pair now) now) ≡ unstamped (cond b (undone_in pair (unstamped now)) (unstamped now))) [
+    elim (same_kind pair.after.kind now.kind) as (λ b. unstamped (cond b (undone_in pair now) now)
+    ≡ unstamped (cond b (undone_in pair (unstamped now)) (unstamped now))) [
       | true ↦ refl
       | false ↦ refl
     ]
 
-module _ (pair : Pair) (of : IsOfElements pair) (id : pair.before.id ≡ pair.after.id) (kind : pair.before.kind ≡ pair.after.kind) where
+module _ (pair : Pair) (of : IsOfElements pair) (id : pair.before.id ≡ pair.after.id) (kind : pair.before.kind
+    ≡ pair.after.kind) where
   after-back : unstamped (undone pair pair.after) ≡ unstamped pair.before
   after-back =
       let undoes = (undone-undoes pair pair.after of kind of.1.0 of.1.1).undone refl in
@@ -75,79 +80,105 @@ module _ (pair : Pair) (of : IsOfElements pair) (id : pair.before.id ≡ pair.af
       (λ n. undoes.scalars n ∙ scalar-back (scalar_of pair.before n) (scalar_of pair.after n))
       (undoes.stamp.id ∙ sym id)
       (undoes.groups ∙ list-back bytes_eq bytes_eq-true bytes_eq-same pair.before.groups pair.after.groups)
-      (undoes.bound ∙ list-back same_listing_entry same_listing_entry-exact same_listing_entry-same pair.before.bound pair.after.bound)
+      (undoes.bound ∙ list-back same_listing_entry same_listing_entry-exact same_listing_entry-same pair.before.bound
+      pair.after.bound)
 
-  now-back : (now : ElementValue) → unstamped now ≡ unstamped pair.after → unstamped (undone pair now) ≡ unstamped pair.before
+  now-back : (now : ElementValue) → unstamped now ≡ unstamped pair.after
+      → unstamped (undone pair now) ≡ unstamped pair.before
   now-back now same =
-      undone-unstamped pair now ∙ ap (λ e. unstamped (undone pair e)) same ∙ sym (undone-unstamped pair pair.after) ∙ after-back
+      undone-unstamped pair now ∙ ap (λ e. unstamped (undone pair e)) same ∙ sym (undone-unstamped pair pair.after)
+      ∙ after-back
 
 -- ---- an element that is put into lists that are the same but for stamps
-put-bare : (e : ElementValue) (elements : List ElementValue) (id : List ℕ) → are_rising (ids_of elements) ≡ true → bare_of (with_put e elements) id ≡ cond (has_id id e) (Some (unstamped e)) (bare_of elements id)
-put-bare e elements id rise = ap (option_map unstamped) ((put-each e elements rise).1 id) ∙ out (has_id id e) (element_of elements id)
+put-bare : (e : ElementValue) (elements : List ElementValue) (id : List ℕ) → are_rising (ids_of elements) ≡ true
+    → bare_of (with_put e elements) id ≡ cond (has_id id e) (Some (unstamped e)) (bare_of elements id)
+put-bare e elements id rise =
+    ap (option_map unstamped) ((put-each e elements rise).1 id) ∙ out (has_id id e) (element_of elements id)
   where
-    out : (b : Bool) (o : Option ElementValue) → option_map unstamped (cond b (Some e) o) ≡ cond b (Some (unstamped e)) (option_map unstamped o)
+    out : (b : Bool) (o : Option ElementValue) → option_map unstamped (cond b (Some e) o)
+        ≡ cond b (Some (unstamped e)) (option_map unstamped o)
     out true o = refl
     out false o = refl
 
-put-same : (e u : ElementValue) (snapshot stored : List ElementValue) → are_rising (ids_of snapshot) ≡ true → are_rising (ids_of stored) ≡ true → unstamped u ≡ unstamped e → SameAs snapshot stored → SameAs (with_put u snapshot) (with_put e stored)
+put-same : (e u : ElementValue) (snapshot stored : List ElementValue) → are_rising (ids_of snapshot) ≡ true
+    → are_rising (ids_of stored) ≡ true → unstamped u ≡ unstamped e → SameAs snapshot stored
+    → SameAs (with_put u snapshot) (with_put e stored)
 put-same e u snapshot stored rise rise' alike same id =
     put-bare u snapshot id rise
     ∙ (λ i. cond (has_id id (alike i)) (Some (alike i)) (same id i))
     ∙ sym (put-bare e stored id rise')
 
 -- ---- an update that becomes stored is carried
-module _ (snapshot stored : List ElementValue) (e : ElementValue) (rise : are_rising (ids_of snapshot) ≡ true) (rise' : are_rising (ids_of stored) ≡ true)
+module _ (snapshot stored : List ElementValue) (e : ElementValue) (rise : are_rising (ids_of snapshot) ≡ true)
+    (rise' : are_rising (ids_of stored) ≡ true)
     (are : AreElements snapshot) (are' : AreElements stored) (is : Is e) (same : SameAs snapshot stored) where
-  followed-same : (old : ElementValue) (o : Option ElementValue) → element_of stored e.id ≡ Some old → old.kind ≡ e.kind → element_of snapshot e.id ≡ o → SameAs (followed o old e snapshot) (with_put e stored)
+  followed-same : (old : ElementValue) (o : Option ElementValue) → element_of stored e.id ≡ Some old → old.kind ≡ e.kind
+      → element_of snapshot e.id ≡ o → SameAs (followed o old e snapshot) (with_put e stored)
   followed-same old None was kind none =
-      absurd (none-some (unstamped old) (sym (ap (option_map unstamped) none) ∙ same e.id ∙ ap (option_map unstamped) was))
+      absurd (none-some (unstamped old) (sym (ap (option_map unstamped) none) ∙ same e.id
+      ∙ ap (option_map unstamped) was))
   followed-same old (Some held) was kind found =
       let own = found-is stored e.id old are' was in
-      let alike : unstamped held ≡ unstamped old = same_Some (unstamped held) (unstamped old) (sym (ap (option_map unstamped) found) ∙ same e.id ∙ ap (option_map unstamped) was) in
+      let alike : unstamped held ≡ unstamped old =
+      same_Some (unstamped held) (unstamped old) (sym (ap (option_map unstamped) found) ∙ same e.id
+      ∙ ap (option_map unstamped) was) in
       let pair : Pair = record { before = e; after = old } in
-      put-same e (undone pair held) snapshot stored rise rise' (now-back pair (is, own.0) (sym own.1) (sym kind) held alike) same
+      put-same e (undone pair held) snapshot stored rise rise'
+      (now-back pair (is, own.0) (sym own.1) (sym kind) held alike) same
 
-  carried-same : (o : Option ElementValue) → element_of stored e.id ≡ o → SameAs (carried_over o e snapshot) (with_put e stored)
+  carried-same : (o : Option ElementValue) → element_of stored e.id ≡ o
+      → SameAs (carried_over o e snapshot) (with_put e stored)
   carried-same None none = put-same e e snapshot stored rise rise' refl same
   carried-same (Some old) was =
-      cond_both (same_kind old.kind e.kind) (followed (element_of snapshot e.id) old e snapshot) (with_put e snapshot) (λ es. SameAs es (with_put e stored))
-      (λ t. followed-same old (element_of snapshot e.id) was (same_kind-true old.kind e.kind (found-is stored e.id old are' was).0.0.kind is.0.kind t) refl)
+      cond_both (same_kind old.kind e.kind) (followed (element_of snapshot e.id) old e snapshot) (with_put e snapshot)
+      (λ es. SameAs es (with_put e stored))
+      (λ t. followed-same old (element_of snapshot e.id) was
+      (same_kind-true old.kind e.kind (found-is stored e.id old are' was).0.0.kind is.0.kind t) refl)
       (λ f. put-same e e snapshot stored rise rise' refl same)
 
-before-is : (stored : List ElementValue) (id : List ℕ) (o : Option ElementValue) → AreElements stored → element_of stored id ≡ o → IfSome o Is
+before-is : (stored : List ElementValue) (id : List ℕ) (o : Option ElementValue) → AreElements stored
+    → element_of stored id ≡ o → IfSome o Is
 before-is stored id None are found = tt
 before-is stored id (Some old) are found = (found-is stored id old are found).0
 
 -- and so is each of a list
-all-same : (list snapshot stored : List ElementValue) → are_rising (ids_of snapshot) ≡ true → are_rising (ids_of stored) ≡ true → AreElements snapshot → AreElements stored → AreElements list → SameAs snapshot stored
+all-same : (list snapshot stored : List ElementValue) → are_rising (ids_of snapshot) ≡ true
+    → are_rising (ids_of stored) ≡ true → AreElements snapshot → AreElements stored → AreElements list
+    → SameAs snapshot stored
     → SameAs (carried_all (takings stored list) snapshot) (taken_all list stored)
 all-same [] snapshot stored rise rise' are are' all same = same
 all-same (e ∷ more) snapshot stored rise rise' are are' all same =
     let is = All-head Is e more all in
     let rest = All-tail Is e more all in
     let taking : Taking = record { before = element_of stored e.id; taken = e } in
-    subst (λ ts. SameAs (carried_all ts snapshot) (taken_all more (taken e stored))) (sym (takings-more stored e more rise'))
+    subst (λ ts. SameAs (carried_all ts snapshot) (taken_all more (taken e stored)))
+    (sym (takings-more stored e more rise'))
     (elim (cases_Bool (is_taken stored e)) [
       | inl t ↦
           let now : taken e stored ≡ with_put e stored = cond-true (is_taken stored e) (with_put e stored) stored t in
           let next = carried-same snapshot stored e rise rise' are are' is same (element_of stored e.id) refl in
-          let later = all-same more (carried taking snapshot) (with_put e stored) (carried-rising taking snapshot rise) (put-each e stored rise').0
-          (carried-elements taking snapshot (before-is stored e.id (element_of stored e.id) are' refl, is) are) (put-elements e stored is are') rest next in
+          let later = all-same more (carried taking snapshot) (with_put e stored) (carried-rising taking snapshot rise)
+          (put-each e stored rise').0
+          (carried-elements taking snapshot (before-is stored e.id (element_of stored e.id) are' refl, is) are)
+          (put-elements e stored is are') rest next in
           subst (λ ts. SameAs (carried_all ts snapshot) (taken_all more (taken e stored)))
           (sym (cond-true (is_taken stored e) (taking ∷ takings (with_put e stored) more) (takings stored more) t))
-          (subst (λ es. SameAs (carried_all (takings (with_put e stored) more) (carried taking snapshot)) (taken_all more es)) (sym now) later)
+          (subst (λ es. SameAs (carried_all (takings (with_put e stored) more) (carried taking snapshot))
+          (taken_all more es)) (sym now) later)
       | inr f ↦
           let now : taken e stored ≡ stored = cond-false (is_taken stored e) (with_put e stored) stored f in
           subst (λ ts. SameAs (carried_all ts snapshot) (taken_all more (taken e stored)))
           (sym (cond-false (is_taken stored e) (taking ∷ takings (with_put e stored) more) (takings stored more) f))
-          (subst (λ es. SameAs (carried_all (takings stored more) snapshot) (taken_all more es)) (sym now) (all-same more snapshot stored rise rise' are are' rest same))
+          (subst (λ es. SameAs (carried_all (takings stored more) snapshot) (taken_all more es)) (sym now)
+          (all-same more snapshot stored rise rise' are are' rest same))
     ])
 
 -- ---- lists whose ids rise
 find-unstamped : (id : List ℕ) (es : List ElementValue) → bare_of es id ≡ element_of (map unstamped es) id
 find-unstamped id [] = refl
 find-unstamped id (e ∷ es) =
-    elim (has_id id e) as (λ b. option_map unstamped (cond b (Some e) (element_of es id)) ≡ cond b (Some (unstamped e)) (element_of (map unstamped es) id)) [
+    elim (has_id id e) as (λ b. option_map unstamped (cond b (Some e) (element_of es id))
+    ≡ cond b (Some (unstamped e)) (element_of (map unstamped es) id)) [
       | true ↦ refl
       | false ↦ find-unstamped id es
     ]
@@ -156,13 +187,18 @@ ids-unstamped : (es : List ElementValue) → ids_of (map unstamped es) ≡ ids_o
 ids-unstamped [] = refl
 ids-unstamped (e ∷ es) = ap (λ ids. e.id ∷ ids) (ids-unstamped es)
 
-bare-same : (a b : List ElementValue) → are_rising (ids_of a) ≡ true → are_rising (ids_of b) ≡ true → SameAs a b → map unstamped a ≡ map unstamped b
+bare-same : (a b : List ElementValue) → are_rising (ids_of a) ≡ true → are_rising (ids_of b) ≡ true → SameAs a b
+    → map unstamped a ≡ map unstamped b
 bare-same a b rise rise' same =
-    same_elements (map unstamped a) (map unstamped b) (ap are_rising (ids-unstamped a) ∙ rise) (ap are_rising (ids-unstamped b) ∙ rise')
+    same_elements (map unstamped a) (map unstamped b) (ap are_rising (ids-unstamped a)
+    ∙ rise) (ap are_rising (ids-unstamped b) ∙ rise')
     (λ id. sym (find-unstamped id a) ∙ same id ∙ find-unstamped id b)
 
-pub carried-captured : (s : State) (list : List ElementValue) → IsKept s → AreElements list → IsCaptured s → IsCaptured (carried_with list s)
+pub carried-captured : (s : State) (list : List ElementValue) → IsKept s → AreElements list → IsCaptured s
+    → IsCaptured (carried_with list s)
 carried-captured s list kept are still =
-    bare-same (carried_all (takings s.stored list) s.snapshot) (taken_all list s.stored) (carried_all-rising (takings s.stored list) s.snapshot kept.snapshot_rise)
+    bare-same (carried_all (takings s.stored list) s.snapshot) (taken_all list s.stored)
+    (carried_all-rising (takings s.stored list) s.snapshot kept.snapshot_rise)
     (taken_all-rising s.stored list kept.stored_rise)
-    (all-same list s.snapshot s.stored kept.snapshot_rise kept.stored_rise kept.snapshot_elements kept.stored_elements are (same-bare s.snapshot s.stored still))
+    (all-same list s.snapshot s.stored kept.snapshot_rise kept.stored_rise kept.snapshot_elements kept.stored_elements
+    are (same-bare s.snapshot s.stored still))

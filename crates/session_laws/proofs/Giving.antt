@@ -1,5 +1,5 @@
--- What a replica makes of itself by a change, an undo or a redo: it gives elements of rising ids with the nonce, each of a higher
--- version than the stored one of its id.
+-- What a replica makes of itself by a change, an undo or a redo: it gives elements of rising ids with the nonce, each
+-- of a higher version than the stored one of its id.
 use Rattle.std.proofs.Common.{◌≡◌, ℕ, ◌+◌, ◌<◌, true, List, [], ◌∷◌, ◌++◌, Option, Some, None, Result, Ok, Err, Contains, inl, inr, refl, sym, ap, ◌∙◌, subst, arith}
 use Rattle.std.proofs.lemmas.Option.{same_Some}
 use Rattle.frac_keys.specs.Rising.{are_rising}
@@ -40,7 +40,8 @@ none-fresh stored nonce = record {
 
 -- ---- a command
 module _ (stored shown : List ElementValue) (command : Command) (time nonce : ℕ) where
-  outcome-fresh : (given : List ElementValue) → are_rising (ids_of stored) ≡ true → outcome stored shown command time nonce ≡ Ok given → IsFresh stored nonce given
+  outcome-fresh : (given : List ElementValue) → are_rising (ids_of stored) ≡ true
+      → outcome stored shown command time nonce ≡ Ok given → IsFresh stored nonce given
   outcome-fresh given rise told = record {
     rise = given-rise stored shown command time nonce given told rise;
     nonces = λ e c. elim (given-cases stored shown command time nonce given told rise e c) [
@@ -76,11 +77,13 @@ record AreStacksOrdered (s : State) : Type 0 where
   undo : AreOrdered s.undo
   redo : AreOrdered s.redo
 
-noted-ordered : (pairs : List Pair) (s : State) → IsOrdered pairs → AreStacksOrdered s → AreStacksOrdered (noted pairs s)
+noted-ordered : (pairs : List Pair) (s : State) → IsOrdered pairs → AreStacksOrdered s
+    → AreStacksOrdered (noted pairs s)
 noted-ordered [] s own are = are
 noted-ordered (pair ∷ pairs) s own are = record { undo = (own, are.undo); redo = tt }
 
-captured-ordered : (s : State) → are_rising (ids_of s.stored) ≡ true → AreStacksOrdered s → AreStacksOrdered (captured s)
+captured-ordered : (s : State) → are_rising (ids_of s.stored) ≡ true → AreStacksOrdered s
+    → AreStacksOrdered (captured s)
 captured-ordered s rise are =
     let own = noted-ordered (pending s.snapshot s.stored) s (pending-ordered s.snapshot s.stored rise) are in
     record { undo = own.undo; redo = own.redo }
@@ -104,15 +107,19 @@ acted-ready s nonce act ready own = record {
 
 module _ (s : State) (time nonce : ℕ) (rise : are_rising (ids_of s.stored) ≡ true) (are : AreStacksOrdered s) where
   -- ---- a change
-  answer-ordered : (capture : Capture) (answer : Result (List ElementValue) Refusal) → AreStacksOrdered (after_outcome capture answer s)
+  answer-ordered : (capture : Capture) (answer : Result (List ElementValue) Refusal)
+      → AreStacksOrdered (after_outcome capture answer s)
   answer-ordered Now (Ok given) =
-      captured-ordered (stored_with given s) (taken_all-rising s.stored given rise) (record { undo = are.undo; redo = are.redo })
+      captured-ordered (stored_with given s) (taken_all-rising s.stored given rise)
+      (record { undo = are.undo; redo = are.redo })
   answer-ordered Later (Ok given) = record { undo = are.undo; redo = are.redo }
   answer-ordered Never (Ok given) = record { undo = are.undo; redo = are.redo }
   answer-ordered capture (Err refusal) = are
 
-  answer-fresh : (command : Command) (answer : Result (List ElementValue) Refusal) → outcome_on command time nonce s ≡ answer → IsFresh s.stored nonce (given_of (of_command answer))
-  answer-fresh command (Ok given) told = outcome-fresh s.stored (shown (live_elements s.stored)) command time nonce given rise told
+  answer-fresh : (command : Command) (answer : Result (List ElementValue) Refusal)
+      → outcome_on command time nonce s ≡ answer → IsFresh s.stored nonce (given_of (of_command answer))
+  answer-fresh command (Ok given) told =
+      outcome-fresh s.stored (shown (live_elements s.stored)) command time nonce given rise told
   answer-fresh command (Err refusal) told = none-fresh s.stored nonce
 
   change-is : (command : Command) (capture : Capture) → IsOwnAct s nonce (change_on command capture time nonce s)
@@ -134,34 +141,45 @@ module _ (s : State) (time nonce : ℕ) (rise : are_rising (ids_of s.stored) ≡
     newer = λ e old c found.
         let gives = own.gives e c in
         let same = same_Some gives.now old (sym (given-found s.stored time nonce own.pairs e gives) ∙ found) in
-        let next = given-version s.stored time nonce own.pairs e gives ∙ ap (λ (d : ElementValue). d.version + 1) same in
+        let next =
+        given-version s.stored time nonce own.pairs e gives ∙ ap (λ (d : ElementValue). d.version + 1) same in
         omega (arith, next);
   }
 
   own-stacks : AreStacksOrdered (captured s)
   own-stacks = captured-ordered s rise are
 
-  turn-answer : (direction : Direction) (answer : Option (Result Turn (List ℕ))) → turn_on direction time nonce s ≡ answer
+  turn-answer : (direction : Direction) (answer : Option (Result Turn (List ℕ)))
+      → turn_on direction time nonce s ≡ answer
       → AreStacksOrdered (after_turn_of direction answer s) × IsFresh s.stored nonce (given_of (of_step answer))
   turn-answer direction None is = (own-stacks, none-fresh s.stored nonce)
   turn-answer direction (Some (Err id)) is = (are, none-fresh s.stored nonce)
   turn-answer directions.Undo (Some (Ok turn)) is =
-      let own = turn-ordered s.stored time nonce (captured s).undo (captured s).redo turn own-stacks.undo own-stacks.redo is in
+      let own = turn-ordered s.stored time nonce (captured s).undo (captured s).redo turn own-stacks.undo
+      own-stacks.redo is in
       (record { undo = own.from; redo = own.to }, turn-fresh turn own)
   turn-answer directions.Redo (Some (Ok turn)) is =
-      let own = turn-ordered s.stored time nonce (captured s).redo (captured s).undo turn own-stacks.redo own-stacks.undo is in
+      let own = turn-ordered s.stored time nonce (captured s).redo (captured s).undo turn own-stacks.redo
+      own-stacks.undo is in
       (record { undo = own.to; redo = own.from }, turn-fresh turn own)
 
   turn-is : (direction : Direction) → IsOwnAct s nonce (turn_by direction time nonce s)
   unfolding turn_by
   turn-is direction =
       let own = turn-answer direction (turn_on direction time nonce s) refl in
-      record { stored = turn-stored direction (turn_on direction time nonce s) s; undo = own.0.undo; redo = own.0.redo; gives = own.1 }
+      record {
+        stored = turn-stored direction (turn_on direction time nonce s) s;
+        undo = own.0.undo;
+        redo = own.0.redo;
+        gives = own.1;
+      }
 
 -- each is so at a replica that is ready
 module _ (s : Seat) (ready : IsReady s) (time nonce : ℕ) where
-  pub change-own : (command : Command) (capture : Capture) → IsOwnAct s.state nonce (change_on command capture time nonce s.state)
-  change-own command capture = change-is s.state time nonce ready.stores.ordered (record { undo = ready.undo; redo = ready.redo }) command capture
+  pub change-own : (command : Command) (capture : Capture)
+      → IsOwnAct s.state nonce (change_on command capture time nonce s.state)
+  change-own command capture = change-is s.state time nonce ready.stores.ordered
+      (record { undo = ready.undo; redo = ready.redo }) command capture
 
   pub turn-own : (direction : Direction) → IsOwnAct s.state nonce (turn_by direction time nonce s.state)
   turn-own = turn-is s.state time nonce ready.stores.ordered (record { undo = ready.undo; redo = ready.redo })

@@ -1,5 +1,5 @@
--- No element clashes with an earlier one exactly where no two that are tied differ; and what a store of updates has of an id is of
--- the highest version.
+-- No element clashes with an earlier one exactly where no two that are tied differ; and what a store of updates has of
+-- an id is of the highest version.
 use Rattle.std.proofs.Common.{◌≡◌, ◌==◌, ◌≤◌, true, ◌&&◌, ◌||◌, List, [], ◌∷◌, ◌++◌, Option, Some, None, Contains, bytes_eq, inl, inr, refl, sym, ap, ◌∙◌, subst, append_assoc, append-nil, arith}
 use Rattle.std.proofs.lemmas.Bool.{and_parts, or_parts, eqb-true, ltb-false}
 use Rattle.std.proofs.lemmas.List.Elements.{Contains-append_left, Contains-append_right, Contains-append_cases}
@@ -15,7 +15,9 @@ use Rattle.session.specs.Clashes.{HaveClashes}
 
 -- ---- no clashes
 -- each element is like the first of those before it
-none-like : (before elements : List ElementValue) → HaveClashes before elements 0 → (front after : List ElementValue) (e : ElementValue) → elements ≡ front ++ e ∷ after → IsLikeFirst (before ++ front) e
+none-like : (before elements : List ElementValue) → HaveClashes before elements 0
+    → (front after : List ElementValue) (e : ElementValue) → elements ≡ front ++ e ∷ after
+    → IsLikeFirst (before ++ front) e
 none-like before [] none front after e is = absurd (nothing front is)
   where
     nothing : (front : List ElementValue) → [] ≡ front ++ e ∷ after → ⊥
@@ -27,17 +29,20 @@ none-like before (x ∷ elements) (inl (like, rest)) [] after e is =
 none-like before (x ∷ elements) (inl (like, rest)) (y ∷ front) after e is =
     let same : x ≡ y = cc in
     let others : elements ≡ front ++ e ∷ after = cc in
-    subst (λ bs. IsLikeFirst bs e) (append_assoc before (x ∷ []) front ∙ ap (λ (z : ElementValue). before ++ z ∷ front) same)
+    subst (λ bs. IsLikeFirst bs e) (append_assoc before (x ∷ []) front
+    ∙ ap (λ (z : ElementValue). before ++ z ∷ front) same)
     (none-like (before ++ x ∷ []) elements rest front after e others)
 none-like before (x ∷ elements) (inr (others, clash, is', rest)) front after e is = absurd (omega (arith, is'))
 
 pub none-free : (elements : List ElementValue) → HaveClashes [] elements 0 → IsFreeOfClashes elements
 none-free elements none = (free-found elements).0 (none-like [] elements none)
 
-like-free : (before elements : List ElementValue) (e : ElementValue) → IsFreeOfClashes (before ++ e ∷ elements) → IsLikeFirst before e
+like-free : (before elements : List ElementValue) (e : ElementValue) → IsFreeOfClashes (before ++ e ∷ elements)
+    → IsLikeFirst before e
 like-free before elements e free first found =
     let at = find-Some (are_tied e) before first found in
-    sym (free e first (Contains-append_right before (e ∷ elements) e (Contains-head e elements)) (Contains-append_left before (e ∷ elements) first at.0) at.1)
+    sym (free e first (Contains-append_right before (e ∷ elements) e (Contains-head e elements))
+    (Contains-append_left before (e ∷ elements) first at.0) at.1)
 
 free-none : (before elements : List ElementValue) → IsFreeOfClashes (before ++ elements) → HaveClashes before elements 0
 free-none before [] free = refl
@@ -60,17 +65,27 @@ tied-alike : (e other : ElementValue) → are_tied e other ≡ true → AreAlike
 tied-alike e other h =
     let outer = and_parts (bytes_eq e.id other.id) ((e.version == other.version) && (e.nonce == other.nonce)) h in
     let inner = and_parts (e.version == other.version) (e.nonce == other.nonce) outer.1 in
-    record { id = (bytes_eq-Decides e.id other.id).0 outer.0; version = eqb-true e.version other.version inner.0; nonce = eqb-true e.nonce other.nonce inner.1 }
+    record {
+      id = (bytes_eq-Decides e.id other.id).0 outer.0;
+      version = eqb-true e.version other.version inner.0;
+      nonce = eqb-true e.nonce other.nonce inner.1;
+    }
 
 -- where those behind are apart from those before, and are the only ones of their ids
-pub free-more : (elements more : List ElementValue) → IsFreeOfClashes elements → ((e x : ElementValue) → Contains more e → Contains elements x → AreAlike e x → ⊥)
-    → ((e other : ElementValue) → Contains more e → Contains more other → e.id ≡ other.id → e ≡ other) → IsFreeOfClashes (elements ++ more)
+pub free-more : (elements more : List ElementValue) → IsFreeOfClashes elements
+    → ((e x : ElementValue) → Contains more e → Contains elements x → AreAlike e x → ⊥)
+    → ((e other : ElementValue) → Contains more e → Contains more other → e.id ≡ other.id → e ≡ other)
+    → IsFreeOfClashes (elements ++ more)
 free-more elements more free apart one e other among also tied =
     let alike = tied-alike e other tied in
     elim (Contains-append_cases elements more e among) [
       | inl first ↦ elim (Contains-append_cases elements more other also) [
         | inl second ↦ free e other first second tied
-        | inr behind ↦ absurd (apart other e behind first (record { id = sym alike.id; version = sym alike.version; nonce = sym alike.nonce }))
+        | inr behind ↦ absurd (apart other e behind first (record {
+          id = sym alike.id;
+          version = sym alike.version;
+          nonce = sym alike.nonce;
+        }))
       ]
       | inr later ↦ elim (Contains-append_cases elements more other also) [
         | inl second ↦ absurd (apart e other later second alike)
@@ -84,12 +99,14 @@ pub record IsCovered (elements : List ElementValue) (e : ElementValue) : Type 0 
   pub found : element_of elements e.id ≡ Some old
   pub least : e.version ≤ old.version
 
-pub covered : (updates elements : List ElementValue) (e : ElementValue) → AreStored updates elements → Contains updates e → IsCovered elements e
+pub covered : (updates elements : List ElementValue) (e : ElementValue) → AreStored updates elements
+    → Contains updates e → IsCovered elements e
 covered updates elements e are c = go (stored_of updates e.id) refl
   where
     go : (o : Option ElementValue) → stored_of updates e.id ≡ o → IsCovered elements e
     go None is = absurd (stored-None updates e.id e is c (of_itself e))
     go (Some old) is =
         let unbeaten = (IsBestOf-stored updates e.id old is).unbeaten e c (of_itself e) in
-        let parts = or_parts (nat_lt old.version e.version) ((e.version == old.version) && (nat_lt e.nonce old.nonce || ((e.nonce == old.nonce) && text_less e old))) unbeaten in
+        let parts = or_parts (nat_lt old.version e.version) ((e.version == old.version)
+        && (nat_lt e.nonce old.nonce || ((e.nonce == old.nonce) && text_less e old))) unbeaten in
         record { old = old; found = are.each e.id ∙ is; least = ltb-false old.version e.version parts.0 }

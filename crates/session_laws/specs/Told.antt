@@ -38,7 +38,8 @@ pub record IsDelivered (events : List Event) (at message : ℕ) : Type 0 where
   pub delivery : Contains events (Deliver at picks)
   pub whole : Contains picks (All message)
 
--- The last events are deliveries, and tell each replica of each message that the events before them make.
+-- The last events are deliveries, and tell each replica of each message that the events before them
+-- make.
 pub record IsToldAll (session : Session) : Type 0 where
   pub first : List Event
   pub last : List Event

@@ -1,5 +1,5 @@
--- What events of a session do to one replica: changes, undos and redos that are done there, and events that keep away
--- from it. This project's own.
+-- What events of a session do to one replica: changes, undos and redos that are done there, and
+-- events that keep away from it. This project's own.
 use Rattle.std.specs.Prelude.{◌≡◌, ◌≢◌, ◌⊎◌, ℕ, zero, suc, List, [], ◌∷◌, Some, Ok}
 use Rattle.elem_store.specs.Updates.{takings}
 use Rattle.reconcile.specs.Ids.{free_elements}
@@ -14,13 +14,15 @@ use Rattle.session_text.specs.declared.event.Event.{Event}
 use Rattle.session_text.specs.declared.event.Event.TheVariants.{Change, Update, Deliver, Hold, Release, Undo, Redo}
 use Rattle.session.specs.Worlds.{World, change_on, given_of, state_at, nonce_at, all_picked, after_event}
 
--- An event keeps away from a replica: it is at another one, it makes a message from elsewhere, it is of held ids alone,
--- or it is a delivery of which nothing becomes stored there.
+-- An event keeps away from a replica: it is at another one, it makes a message from elsewhere, it
+-- is of held ids alone, or it is a delivery of which nothing becomes stored there.
 abbrev pub KeepsAway : ℕ → Event → World → Type 0
 KeepsAway at (Change other time capture command) w = other ≢ at
 KeepsAway at (Update elements) w = Unit {0}
 KeepsAway at (Deliver to picks) w =
-    to ≡ at → takings (state_at w at).stored (free_elements (state_at w at).held (all_picked w.messages picks)) ≡ []
+    to ≡ at
+    → takings (state_at w at).stored
+    (free_elements (state_at w at).held (all_picked w.messages picks)) ≡ []
 KeepsAway at (Hold other id) w = Unit {0}
 KeepsAway at (Release other id) w = Unit {0}
 KeepsAway at (Undo other time) w = other ≢ at
@@ -44,8 +46,8 @@ pub record IsTurnAt (direction : Direction) (at : ℕ) (event : Event) (w : Worl
   pub turn : Turn
   pub found : turn_on direction time (nonce_at w at) (state_at w at) ≡ Some (Ok turn)
 
--- So many of the events are such at the replica, each in the world that the events before it come to, and all others
--- keep away from it.
+-- So many of the events are such at the replica, each in the world that the events before it come
+-- to, and all others keep away from it.
 abbrev pub AreAmong : (ℕ → Event → World → Type 0) → ℕ → List Event → World → ℕ → Type 0
 AreAmong Is at [] w zero = Unit {0}
 AreAmong Is at [] w (suc n) = ⊥

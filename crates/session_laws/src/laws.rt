@@ -20,7 +20,8 @@ ghost use Rattle.session_text.specs.Facts.{IsSession};
 ghost use Rattle.session_text.specs.declared.event.Event.{Event};
 ghost use Rattle.session_text.specs.declared.session.Session.{Session};
 
-/// After every event each replica's state is sound, and all updates that it took and all messages are of elements.
+/// After every event each replica's state is sound, and all updates that it took and all messages
+/// are of elements.
 pub fn states_are_sound()
     ensures sound { (session : Session) (count : ℕ) (s : Seat) → IsSession session
         → Contains (world_after session count).seats s → IsSoundState s.state }
@@ -31,8 +32,9 @@ pub fn states_are_sound()
         → Contains (world_after session count).messages message → AreElements message }
 {}
 
-/// Replicas that took the same updates, in whatever order, grouping and repetition, store and show the same. What each
-/// replica shows has strictly rising keys and agrees on its links, frames and groups.
+/// Replicas that took the same updates, in whatever order, grouping and repetition, store and show
+/// the same. What each replica shows has strictly rising keys and agrees on its links, frames and
+/// groups.
 pub fn replicas_converge()
     ensures stored { (session : Session) (count : ℕ) (s other : Seat) → IsSession session
         → Contains (world_after session count).seats s
@@ -61,10 +63,11 @@ pub fn nothing_is_pending()
         → IsCaptured (state_at (world_after session count) at) }
 {}
 
-/// A replica on which nothing is pending makes changes, and then as many undos are done: it is as it was before the
-/// changes, whatever else happens meanwhile that keeps away from it. As nothing is pending after a change, this tells
-/// also what it is after each of several undos: as it was before as many of the last changes. While changes are left,
-/// undo finds an entry, and is refused for a full version alone.
+/// A replica on which nothing is pending makes changes, and then as many undos are done: it is as
+/// it was before the changes, whatever else happens meanwhile that keeps away from it. As nothing
+/// is pending after a change, this tells also what it is after each of several undos: as it was
+/// before as many of the last changes. While changes are left, undo finds an entry, and is refused
+/// for a full version alone.
 pub fn undo_brings_back()
     ensures back { (session : Session) (count at n : ℕ) (changes undos rest : List Event)
         → IsSession session
@@ -96,9 +99,10 @@ pub fn undo_brings_back()
         IsFound s.stored (undo_on time nonce s) }
 {}
 
-/// A replica on which nothing is pending makes some changes and then others, all of them are undone, and as many redos
-/// are done as there were first changes: it is as it was after these, whatever else happens meanwhile that keeps away
-/// from it. While undos are left, redo finds an entry, and is refused for a full version alone.
+/// A replica on which nothing is pending makes some changes and then others, all of them are
+/// undone, and as many redos are done as there were first changes: it is as it was after these,
+/// whatever else happens meanwhile that keeps away from it. While undos are left, redo finds an
+/// entry, and is refused for a full version alone.
 pub fn redo_repeats()
     ensures again { (session : Session) (count at r l : ℕ)
         (again others undos redos rest : List Event) → IsSession session
@@ -128,8 +132,8 @@ pub fn redo_repeats()
 {}
 
 /// An undo and a redo leave what others changed: each element of which the entry has no part; each
-/// member outside the stamp that its part doesn't name; and of the groups and the listing all items but
-/// those that the part gained or lost.
+/// member outside the stamp that its part doesn't name; and of the groups and the listing all items
+/// but those that the part gained or lost.
 pub fn others_changes_stay()
     ensures undo { (session : Session) (count at time nonce : ℕ) (turn : Turn) → IsSession session
         → at < session.replicas → let s = state_at (world_after session count) at in

@@ -26,7 +26,8 @@ pub same-some : {A : Type 0} {x y : A} → Some x ≡ Some y → x ≡ y
 same-some e = cc
 
 -- ---- numbers
-pub from-once : (least limit : ℕ) (found : Option (List ℕ)) (a b : ℕ) → IsFrom least limit found a → IsFrom least limit found b → a ≡ b
+pub from-once : (least limit : ℕ) (found : Option (List ℕ)) (a b : ℕ) → IsFrom least limit found a
+    → IsFrom least limit found b → a ≡ b
 from-once least limit found a b one two = whole-once found a b one.0 two.0
 
 pub from-or-not : (least limit : ℕ) (found : Option (List ℕ)) → Decided (IsFrom least limit found)
@@ -73,7 +74,8 @@ has-decided (Some value) fits = elim (object-decided value fits) [
 ]
 
 pub has-once : (found : Option (List ℕ)) (a b : List Pair) → HasObject found a → HasObject found b → a ≡ b
-has-once found a b one two = members-once two.0 a b (subst (λ v. IsObject v a) (same-some (sym one.1 ∙ two.1)) one.2) two.2
+has-once found a b one two =
+    members-once two.0 a b (subst (λ v. IsObject v a) (same-some (sym one.1 ∙ two.1)) one.2) two.2
 
 pub shallow-decided : (found : Option (List ℕ)) → Fits found → Decided (IsShallow found)
 shallow-decided None fits = inr (λ v is. let e = is.0 in cc)
@@ -95,14 +97,16 @@ ids-decided found fits = elim (texts-or-not found fits) [
 pub ids-once : (found : Option (List ℕ)) (a b : List (List ℕ)) → AreIds found a → AreIds found b → a ≡ b
 ids-once found a b one two = one.2 ∙ (ap first_texts (texts-once found one.0 two.0 one.1 two.1) ∙ sym two.2)
 
-pub told-decided : {A : Type 0} (word : A → List ℕ) (xs : List A) → AreTold word xs → (found : Option (List ℕ)) → Decided (λ (x : A). found ≡ Some (word x))
+pub told-decided : {A : Type 0} (word : A → List ℕ) (xs : List A) → AreTold word xs → (found : Option (List ℕ))
+    → Decided (λ (x : A). found ≡ Some (word x))
 told-decided word xs told None = inr (λ x e. cc)
 told-decided word xs told (Some value) = elim (word-or-not word xs told value) [
   | inl (x, e) ↦ inl (x, ap Some e)
   | inr none ↦ inr (λ x e. none x (same-some e))
 ]
 
-pub told-once : {A : Type 0} (word : A → List ℕ) (xs : List A) → AreTold word xs → (found : Option (List ℕ)) (x y : A) → found ≡ Some (word x) → found ≡ Some (word y) → x ≡ y
+pub told-once : {A : Type 0} (word : A → List ℕ) (xs : List A) → AreTold word xs → (found : Option (List ℕ)) (x y : A)
+    → found ≡ Some (word x) → found ≡ Some (word y) → x ≡ y
 told-once word xs told None x y e f = cc
 told-once word xs told (Some value) x y e f = word-once word xs told value x y (same-some e) (same-some f)
 
@@ -120,7 +124,8 @@ side-decided found = told-decided side_text all_sides sides-told found
 -- ---- spots
 top_bottom : quote (codes "top") ≡ quote (codes "bottom") → ⊥
 unfolding quote
-top_bottom e = both_ways (bytes_eq (quote (codes "top")) (quote (codes "bottom"))) refl (ap (λ w. bytes_eq w (quote (codes "bottom"))) e ∙ bytes_eq-same (quote (codes "bottom")))
+top_bottom e = both_ways (bytes_eq (quote (codes "top")) (quote (codes "bottom"))) refl
+    (ap (λ w. bytes_eq w (quote (codes "bottom"))) e ∙ bytes_eq-same (quote (codes "bottom")))
 
 quote-object : (text : List ℕ) (value : List ℕ) (members : List Pair) → value ≡ quote text → IsObject value members → ⊥
 quote-object text value members e object =
@@ -130,7 +135,8 @@ quote-object text value members e object =
 
 after-once : (value a b : List ℕ) → IsSpotAfter value a → IsSpotAfter value b → a ≡ b
 after-once value a b one two =
-    text-once (value_at (codes "after") two.0) a b (subst (λ ms. IsText (value_at (codes "after") ms) a) (members-once value one.0 two.0 one.1 two.1) one.2) two.2
+    text-once (value_at (codes "after") two.0) a b
+    (subst (λ ms. IsText (value_at (codes "after") ms) a) (members-once value one.0 two.0 one.1 two.1) one.2) two.2
 
 pub spot-once : (found : Option (List ℕ)) (a b : Spot) → IsSpot found a → IsSpot found b → a ≡ b
 spot-once None a b one two = one ∙ sym two
@@ -139,21 +145,28 @@ spot-once (Some value) spots.Top spots.Bottom one two = absurd (top_bottom (sym 
 spot-once (Some value) spots.Top (spots.After b) one two = absurd (quote-object (codes "top") value two.0 one two.1)
 spot-once (Some value) spots.Bottom spots.Top one two = absurd (top_bottom (sym two ∙ one))
 spot-once (Some value) spots.Bottom spots.Bottom one two = refl
-spot-once (Some value) spots.Bottom (spots.After b) one two = absurd (quote-object (codes "bottom") value two.0 one two.1)
+spot-once (Some value) spots.Bottom (spots.After b) one two =
+    absurd (quote-object (codes "bottom") value two.0 one two.1)
 spot-once (Some value) (spots.After a) spots.Top one two = absurd (quote-object (codes "top") value one.0 two one.1)
-spot-once (Some value) (spots.After a) spots.Bottom one two = absurd (quote-object (codes "bottom") value one.0 two one.1)
-spot-once (Some value) (spots.After a) (spots.After b) one two = ap (λ id. spots.After id) (after-once value a b one two)
+spot-once (Some value) (spots.After a) spots.Bottom one two =
+    absurd (quote-object (codes "bottom") value one.0 two one.1)
+spot-once (Some value) (spots.After a) (spots.After b) one two =
+    ap (λ id. spots.After id) (after-once value a b one two)
 
 after-decided : (value : List ℕ) → IsCompact 128 value → Decided (IsSpotAfter value)
 after-decided value is = elim (object-decided value is) [
   | inr none ↦ inr (λ id after. none after.0 after.1)
-  | inl (members, object) ↦ elim (text-or-not (value_at (codes "after") members) (fits-in 127 members (lit≤ tt) object.are_members (codes "after"))) [
-    | inl (id, named) ↦ inl (id, (members, object, named))
-    | inr none ↦ inr (λ id after. none id (subst (λ ms. IsText (value_at (codes "after") ms) id) (members-once value after.0 members after.1 object) after.2))
-  ]
+  | inl (members, object) ↦ elim (text-or-not (value_at (codes "after") members)
+      (fits-in 127 members (lit≤ tt) object.are_members (codes "after"))) [
+        | inl (id, named) ↦ inl (id, (members, object, named))
+        | inr none ↦ inr (λ id after. none id
+            (subst (λ ms. IsText (value_at (codes "after") ms) id) (members-once value after.0 members after.1 object)
+            after.2))
+      ]
 ]
 
-pub no-spot : (value : List ℕ) → value ≢ quote (codes "top") → value ≢ quote (codes "bottom") → ((id : List ℕ) → IsSpotAfter value id → ⊥) → (spot : Spot) → IsSpot (Some value) spot → ⊥
+pub no-spot : (value : List ℕ) → value ≢ quote (codes "top") → value ≢ quote (codes "bottom")
+    → ((id : List ℕ) → IsSpotAfter value id → ⊥) → (spot : Spot) → IsSpot (Some value) spot → ⊥
 no-spot value top bottom after spots.Top is = top is
 no-spot value top bottom after spots.Bottom is = bottom is
 no-spot value top bottom after (spots.After id) is = after id is
@@ -194,11 +207,13 @@ pub rest-once : (found : Option (List ℕ)) (a b : List Member) → IsRest found
 rest-once None a b one two = one ∙ sym two
 rest-once (Some value) a b (deep, (members, object, are)) (deep', (others, object', are')) =
     others-once (bytes_eq (codes "elementId")) (find_in others) a b
-    (subst (λ (ms : List Pair). AreOthers (bytes_eq (codes "elementId")) (find_in ms) a) (members-once value members others object object') are) are'
+    (subst (λ (ms : List Pair). AreOthers (bytes_eq (codes "elementId")) (find_in ms) a)
+    (members-once value members others object object') are) are'
 
 -- ---- picks
 -- a number is no array
-pub number-array : (item : List ℕ) (n : ℕ) (parts : List (List ℕ)) → IsWholeNumber (Some item) n → IsArray (Some item) parts → ⊥
+pub number-array : (item : List ℕ) (n : ℕ) (parts : List (List ℕ)) → IsWholeNumber (Some item) n
+    → IsArray (Some item) parts → ⊥
 number-array item n parts whole array =
     let starts = array-starts parts in
     let is : item ≡ 91 ∷ starts.0 = same-some array.1 ∙ starts.1 in
@@ -210,7 +225,8 @@ pair-once : (made : ℕ) (parts : List (List ℕ)) (a b : ℕ × ℕ) → IsPair
 pair-once made parts a b (first, second, e, from, whole) (first', second', e', from', whole') =
     let heads : first' ≡ first = head-same (sym e' ∙ e) in
     let seconds : second' ≡ second = second-same (sym e' ∙ e) in
-    ap₂ (λ m i. (m, i)) (from-once 0 made (Some first) a.0 b.0 from (subst (λ v. IsFrom 0 made (Some v) b.0) heads from'))
+    ap₂ (λ m i. (m, i)) (from-once 0 made (Some first) a.0 b.0 from
+    (subst (λ v. IsFrom 0 made (Some v) b.0) heads from'))
     (whole-once (Some second) a.1 b.1 whole (subst (λ v. IsWholeNumber (Some v) b.1) seconds whole'))
   where
     head-same : {x y : List ℕ} {xs ys : List (List ℕ)} → x ∷ xs ≡ y ∷ ys → x ≡ y
@@ -220,12 +236,14 @@ pair-once made parts a b (first, second, e, from, whole) (first', second', e', f
     second-same e = cc
 
 pub pick-once : (made : ℕ) (item : List ℕ) (a b : Pick) → IsPick made item a → IsPick made item b → a ≡ b
-pick-once made item (chosen.All m) (chosen.All n) one two = ap (λ k. chosen.All k) (from-once 0 made (Some item) m n one two)
+pick-once made item (chosen.All m) (chosen.All n) one two =
+    ap (λ k. chosen.All k) (from-once 0 made (Some item) m n one two)
 pick-once made item (chosen.All m) (chosen.One n i) one two = absurd (number-array item m two.0 one.0 two.1)
 pick-once made item (chosen.One m i) (chosen.All n) one two = absurd (number-array item n one.0 two.0 one.1)
 pick-once made item (chosen.One m i) (chosen.One n j) (parts, array, pair) (parts', array', pair') =
     let same = array-alike (Some item) parts' parts array' array in
-    ap (λ (p : ℕ × ℕ). chosen.One p.0 p.1) (pair-once made parts (m, i) (n, j) pair (subst (λ ps. IsPair made ps (n, j)) same pair'))
+    ap (λ (p : ℕ × ℕ). chosen.One p.0 p.1)
+    (pair-once made parts (m, i) (n, j) pair (subst (λ ps. IsPair made ps (n, j)) same pair'))
 
 pair-decided : (made : ℕ) (parts : List (List ℕ)) → Decided (IsPair made parts)
 pair-decided made [] = inr (λ pair is. let e = is.2 in cc)
@@ -239,7 +257,8 @@ pair-decided made (first ∷ second ∷ []) = elim (from-or-not 0 made (Some fir
   ]
 ]
 
-pub no-pick : (made : ℕ) (item : List ℕ) → ((m : ℕ) → IsFrom 0 made (Some item) m → ⊥) → ((parts : List (List ℕ)) (pair : ℕ × ℕ) → IsArray (Some item) parts → IsPair made parts pair → ⊥)
+pub no-pick : (made : ℕ) (item : List ℕ) → ((m : ℕ) → IsFrom 0 made (Some item) m → ⊥)
+    → ((parts : List (List ℕ)) (pair : ℕ × ℕ) → IsArray (Some item) parts → IsPair made parts pair → ⊥)
     → (pick : Pick) → IsPick made item pick → ⊥
 no-pick made item number pair (chosen.All m) is = number m is
 no-pick made item number pair (chosen.One m i) is = pair is.0 (m, i) is.1 is.2
@@ -253,16 +272,19 @@ pick-decided made item is = elim (array-decided (Some item) is) [
   | inl (parts, array) ↦ elim (pair-decided made parts) [
     | inl (pair, two) ↦ inl (chosen.One pair.0 pair.1, (parts, array, two))
     | inr none ↦ inr (no-pick made item (λ m from. number-array item m parts from.0 array)
-        (λ others pair also two. none pair (subst (λ ps. IsPair made ps pair) (array-alike (Some item) others parts also array) two)))
+        (λ others pair also two. none pair
+        (subst (λ ps. IsPair made ps pair) (array-alike (Some item) others parts also array) two)))
   ]
 ]
 
-pub picks-once : (made : ℕ) (items : List (List ℕ)) (a b : List Pick) → ArePicks made items a → ArePicks made items b → a ≡ b
+pub picks-once : (made : ℕ) (items : List (List ℕ)) (a b : List Pick) → ArePicks made items a → ArePicks made items b
+    → a ≡ b
 picks-once made [] a b one two = one ∙ sym two
 picks-once made (item ∷ items) a b (p, ps, e, is, are) (q, qs, f, also, others) =
     e ∙ (ap₂ (λ x xs. x ∷ xs) (pick-once made item p q is also) (picks-once made items ps qs are others) ∙ sym f)
 
-picks-decided : (made : ℕ) (items : List (List ℕ)) → AllByRecursion (IsCompact 127) items → Decided (ArePicks made items)
+picks-decided : (made : ℕ) (items : List (List ℕ)) → AllByRecursion (IsCompact 127) items
+    → Decided (ArePicks made items)
 picks-decided made [] all = inl ([], refl)
 picks-decided made (item ∷ items) all = elim (pick-decided made item (Value-deeper (lit≤ tt) all.0)) [
   | inr none ↦ inr (λ ps are. none are.0 are.3)
@@ -277,10 +299,12 @@ has_picks-decided made found fits = elim (array-decided found fits) [
   | inr none ↦ inr (λ ps has. none has.0 has.1)
   | inl (items, array) ↦ elim (picks-decided made items array.0) [
     | inl (ps, are) ↦ inl (ps, (items, array, are))
-    | inr none ↦ inr (λ ps has. none ps (subst (λ is. ArePicks made is ps) (array-alike found has.0 items has.1 array) has.2))
+    | inr none ↦ inr (λ ps has. none ps (subst (λ is. ArePicks made is ps) (array-alike found has.0 items has.1 array)
+        has.2))
   ]
 ]
 
-pub has_picks-once : (made : ℕ) (found : Option (List ℕ)) (a b : List Pick) → HasPicks made found a → HasPicks made found b → a ≡ b
+pub has_picks-once : (made : ℕ) (found : Option (List ℕ)) (a b : List Pick) → HasPicks made found a
+    → HasPicks made found b → a ≡ b
 has_picks-once made found a b (items, array, are) (others, array', are') =
     picks-once made others a b (subst (λ is. ArePicks made is a) (array-alike found items others array array') are) are'

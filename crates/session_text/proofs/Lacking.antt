@@ -10,7 +10,14 @@ use Rattle.session_text.specs.declared.happening.Happening.TheVariants as happen
 use Rattle.session_text.specs.declared.lines.LineName.{LineName}
 use Rattle.session_text.specs.declared.lines.LineName.TheVariants as named
 
-pub no-asked : (found : Option (List ℕ)) → (found ≡ Some (asked_text asked.Create) → ⊥) → (found ≡ Some (asked_text asked.Set) → ⊥) → (found ≡ Some (asked_text asked.Delete) → ⊥) → (found ≡ Some (asked_text asked.Place) → ⊥) → (found ≡ Some (asked_text asked.Bind) → ⊥) → (found ≡ Some (asked_text asked.Unbind) → ⊥) → (found ≡ Some (asked_text asked.Label) → ⊥) → (found ≡ Some (asked_text asked.Unlabel) → ⊥) → (found ≡ Some (asked_text asked.Frame) → ⊥) → (found ≡ Some (asked_text asked.Unframe) → ⊥) → (found ≡ Some (asked_text asked.Group) → ⊥) → (found ≡ Some (asked_text asked.Ungroup) → ⊥) → (found ≡ Some (asked_text asked.Duplicate) → ⊥) → (found ≡ Some (asked_text asked.Paste) → ⊥) → (name : Asked) → IsAsked found name → ⊥
+pub no-asked : (found : Option (List ℕ)) → (found ≡ Some (asked_text asked.Create) → ⊥)
+    → (found ≡ Some (asked_text asked.Set) → ⊥) → (found ≡ Some (asked_text asked.Delete) → ⊥)
+    → (found ≡ Some (asked_text asked.Place) → ⊥) → (found ≡ Some (asked_text asked.Bind) → ⊥)
+    → (found ≡ Some (asked_text asked.Unbind) → ⊥) → (found ≡ Some (asked_text asked.Label) → ⊥)
+    → (found ≡ Some (asked_text asked.Unlabel) → ⊥) → (found ≡ Some (asked_text asked.Frame) → ⊥)
+    → (found ≡ Some (asked_text asked.Unframe) → ⊥) → (found ≡ Some (asked_text asked.Group) → ⊥)
+    → (found ≡ Some (asked_text asked.Ungroup) → ⊥) → (found ≡ Some (asked_text asked.Duplicate) → ⊥)
+    → (found ≡ Some (asked_text asked.Paste) → ⊥) → (name : Asked) → IsAsked found name → ⊥
 no-asked found p0 p1 p2 p3 p4 p5 p6 p7 p8 p9 p10 p11 p12 p13 asked.Create is = p0 is
 no-asked found p0 p1 p2 p3 p4 p5 p6 p7 p8 p9 p10 p11 p12 p13 asked.Set is = p1 is
 no-asked found p0 p1 p2 p3 p4 p5 p6 p7 p8 p9 p10 p11 p12 p13 asked.Delete is = p2 is
@@ -26,7 +33,11 @@ no-asked found p0 p1 p2 p3 p4 p5 p6 p7 p8 p9 p10 p11 p12 p13 asked.Ungroup is = 
 no-asked found p0 p1 p2 p3 p4 p5 p6 p7 p8 p9 p10 p11 p12 p13 asked.Duplicate is = p12 is
 no-asked found p0 p1 p2 p3 p4 p5 p6 p7 p8 p9 p10 p11 p12 p13 asked.Paste is = p13 is
 
-pub no-happening : (found : Option (List ℕ)) → (found ≡ Some (happening_text happenings.Change) → ⊥) → (found ≡ Some (happening_text happenings.Update) → ⊥) → (found ≡ Some (happening_text happenings.Deliver) → ⊥) → (found ≡ Some (happening_text happenings.Hold) → ⊥) → (found ≡ Some (happening_text happenings.Release) → ⊥) → (found ≡ Some (happening_text happenings.Undo) → ⊥) → (found ≡ Some (happening_text happenings.Redo) → ⊥) → (name : Happening) → IsHappening found name → ⊥
+pub no-happening : (found : Option (List ℕ)) → (found ≡ Some (happening_text happenings.Change) → ⊥)
+    → (found ≡ Some (happening_text happenings.Update) → ⊥) → (found ≡ Some (happening_text happenings.Deliver) → ⊥)
+    → (found ≡ Some (happening_text happenings.Hold) → ⊥) → (found ≡ Some (happening_text happenings.Release) → ⊥)
+    → (found ≡ Some (happening_text happenings.Undo) → ⊥) → (found ≡ Some (happening_text happenings.Redo) → ⊥)
+    → (name : Happening) → IsHappening found name → ⊥
 no-happening found p0 p1 p2 p3 p4 p5 p6 happenings.Change is = p0 is
 no-happening found p0 p1 p2 p3 p4 p5 p6 happenings.Update is = p1 is
 no-happening found p0 p1 p2 p3 p4 p5 p6 happenings.Deliver is = p2 is
@@ -35,7 +46,13 @@ no-happening found p0 p1 p2 p3 p4 p5 p6 happenings.Release is = p4 is
 no-happening found p0 p1 p2 p3 p4 p5 p6 happenings.Undo is = p5 is
 no-happening found p0 p1 p2 p3 p4 p5 p6 happenings.Redo is = p6 is
 
-pub no-line : (found : Option (List ℕ)) → (found ≡ Some (line_name_text named.Change) → ⊥) → (found ≡ Some (line_name_text named.Undo) → ⊥) → (found ≡ Some (line_name_text named.Redo) → ⊥) → (found ≡ Some (line_name_text named.Take) → ⊥) → (found ≡ Some (line_name_text named.Receive) → ⊥) → (found ≡ Some (line_name_text named.Hold) → ⊥) → (found ≡ Some (line_name_text named.Release) → ⊥) → (found ≡ Some (line_name_text named.Scene) → ⊥) → (found ≡ Some (line_name_text named.State) → ⊥) → (found ≡ Some (line_name_text named.Stored) → ⊥) → (found ≡ Some (line_name_text named.Lengths) → ⊥) → (found ≡ Some (line_name_text named.Pending) → ⊥) → (name : LineName) → IsLineName found name → ⊥
+pub no-line : (found : Option (List ℕ)) → (found ≡ Some (line_name_text named.Change) → ⊥)
+    → (found ≡ Some (line_name_text named.Undo) → ⊥) → (found ≡ Some (line_name_text named.Redo) → ⊥)
+    → (found ≡ Some (line_name_text named.Take) → ⊥) → (found ≡ Some (line_name_text named.Receive) → ⊥)
+    → (found ≡ Some (line_name_text named.Hold) → ⊥) → (found ≡ Some (line_name_text named.Release) → ⊥)
+    → (found ≡ Some (line_name_text named.Scene) → ⊥) → (found ≡ Some (line_name_text named.State) → ⊥)
+    → (found ≡ Some (line_name_text named.Stored) → ⊥) → (found ≡ Some (line_name_text named.Lengths) → ⊥)
+    → (found ≡ Some (line_name_text named.Pending) → ⊥) → (name : LineName) → IsLineName found name → ⊥
 no-line found p0 p1 p2 p3 p4 p5 p6 p7 p8 p9 p10 p11 named.Change is = p0 is
 no-line found p0 p1 p2 p3 p4 p5 p6 p7 p8 p9 p10 p11 named.Undo is = p1 is
 no-line found p0 p1 p2 p3 p4 p5 p6 p7 p8 p9 p10 p11 named.Redo is = p2 is

@@ -16,12 +16,16 @@ record IsLineKept (line : Line) : Type 0 where
   limits : IsLineWithinLimits line
   brings : LineBringsElements line
 
-line_named-kept : (members : List Pair) (name : LineName) (line : Line) → LineNamed members name (Ok line) → IsLineKept line
+line_named-kept : (members : List Pair) (name : LineName) (line : Line) → LineNamed members name (Ok line)
+    → IsLineKept line
 line_named-kept members named.Change line says =
     let (time, whole, more) = then-ok _ _ line says in
     let (capture, is, next) = then-ok _ _ line more in
     let (command, asks, last) = then-ok _ _ line next in
-    subst IsLineKept (sym (gives-ok _ line last)) (record { limits = (whole.0, command-limits members command asks); brings = command-written members command asks })
+    subst IsLineKept (sym (gives-ok _ line last)) (record {
+      limits = (whole.0, command-limits members command asks);
+      brings = command-written members command asks;
+    })
 line_named-kept members named.Undo line says =
     let (time, whole, last) = then-ok _ _ line says in
     subst IsLineKept (sym (gives-ok _ line last)) (record { limits = whole.0; brings = tt })
@@ -41,13 +45,17 @@ line_named-kept members named.Hold line says =
 line_named-kept members named.Release line says =
     let (id, is, last) = then-ok _ _ line says in
     subst IsLineKept (sym (gives-ok _ line last)) (record { limits = tt; brings = tt })
-line_named-kept members named.Scene line says = subst IsLineKept (sym (gives-ok _ line says)) (record { limits = tt; brings = tt })
-line_named-kept members named.State line says = subst IsLineKept (sym (gives-ok _ line says)) (record { limits = tt; brings = tt })
+line_named-kept members named.Scene line says =
+    subst IsLineKept (sym (gives-ok _ line says)) (record { limits = tt; brings = tt })
+line_named-kept members named.State line says =
+    subst IsLineKept (sym (gives-ok _ line says)) (record { limits = tt; brings = tt })
 line_named-kept members named.Stored line says =
     let (id, is, last) = then-ok _ _ line says in
     subst IsLineKept (sym (gives-ok _ line last)) (record { limits = tt; brings = tt })
-line_named-kept members named.Lengths line says = subst IsLineKept (sym (gives-ok _ line says)) (record { limits = tt; brings = tt })
-line_named-kept members named.Pending line says = subst IsLineKept (sym (gives-ok _ line says)) (record { limits = tt; brings = tt })
+line_named-kept members named.Lengths line says =
+    subst IsLineKept (sym (gives-ok _ line says)) (record { limits = tt; brings = tt })
+line_named-kept members named.Pending line says =
+    subst IsLineKept (sym (gives-ok _ line says)) (record { limits = tt; brings = tt })
 
 line-kept : (text : List ℕ) (line : Line) → LineText text (Ok line) → IsLineKept line
 line-kept text line says =
@@ -69,4 +77,11 @@ opening-kept text opening says =
     let (seed, whole, behind) = then-ok _ _ opening next in
     let (scene, is, last) = then-ok _ _ opening behind in
     let found = value_unless_null (codes "scene") members in
-    subst IsReplicaOpening (sym (gives-ok _ opening last)) (record { number = few.2; seed = whole.0; keys = scene-keys found scene is; elements = scene-elements found scene is })
+    subst IsReplicaOpening (sym (gives-ok _ opening last))
+    (record {
+      number = few.2;
+      seed = whole.0;
+      keys = scene-keys found scene is;
+      elements =
+          scene-elements found scene is;
+    })

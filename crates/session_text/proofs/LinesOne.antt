@@ -26,7 +26,8 @@ members-open members are =
     then-one _ _ (from-one 1 2 members names.Replica) (λ version is.
     then-one _ _ (from-one 0 64 members names.Number) (λ number also.
     then-one _ _ (whole-one members names.Seed) (λ seed too.
-    then-one _ _ (scene-one (value_unless_null (codes "scene") members) (fits-given (codes "scene") members are)) (λ scene last. gives-one _))))
+    then-one _ _ (scene-one (value_unless_null (codes "scene") members) (fits-given (codes "scene") members are))
+    (λ scene last. gives-one _))))
 
 -- ---- the lines behind it
 line_name-one : (members : List Pair) → IsOne (MemberOf names.Do IsLineName members)
@@ -36,7 +37,9 @@ line_name-one members =
 
 line_named-one : (members : List Pair) → AreMembers 127 members → (name : LineName) → IsOne (LineNamed members name)
 line_named-one members are named.Change =
-    then-one _ _ (whole-one members names.Time) (λ time is. then-one _ _ (capture-one members) (λ capture also. then-one _ _ (command_in-one members are) (λ command too. gives-one _)))
+    then-one _ _ (whole-one members names.Time)
+    (λ time is. then-one _ _ (capture-one members) (λ capture also. then-one _ _ (command_in-one members are)
+    (λ command too. gives-one _)))
 line_named-one members are named.Undo = then-one _ _ (whole-one members names.Time) (λ time is. gives-one _)
 line_named-one members are named.Redo = then-one _ _ (whole-one members names.Time) (λ time is. gives-one _)
 line_named-one members are named.Take = then-one _ _ (elements_in-one members are) (λ es is. gives-one _)
@@ -54,15 +57,19 @@ members-line members are = then-one _ _ (line_name-one members) (λ name is. lin
 
 -- ---- texts
 pub opening_text-one : (text : List ℕ) → IsCompact 128 text → IsOne (OpeningText text)
-opening_text-one text compact = then-one _ _ (object-one text compact) (λ members object. members-open members object.are_members)
+opening_text-one text compact =
+    then-one _ _ (object-one text compact) (λ members object. members-open members object.are_members)
 
 pub line_text-one : (text : List ℕ) → IsCompact 128 text → IsOne (LineText text)
-line_text-one text compact = then-one _ _ (object-one text compact) (λ members object. members-line members object.are_members)
+line_text-one text compact =
+    then-one _ _ (object-one text compact) (λ members object. members-line members object.are_members)
 
-pub opening-once : (text : List ℕ) (answer other : Result Opening TextFault) → IsCompact 128 text → OpeningText text answer → OpeningText text other → answer ≡ other
+pub opening-once : (text : List ℕ) (answer other : Result Opening TextFault) → IsCompact 128 text
+    → OpeningText text answer → OpeningText text other → answer ≡ other
 opening-once text answer other compact = (opening_text-one text compact).once answer other
 
-pub line-once : (text : List ℕ) (answer other : Result Line TextFault) → IsCompact 128 text → LineText text answer → LineText text other → answer ≡ other
+pub line-once : (text : List ℕ) (answer other : Result Line TextFault) → IsCompact 128 text → LineText text answer
+    → LineText text other → answer ≡ other
 line-once text answer other compact = (line_text-one text compact).once answer other
 
 pub opening-told : (text : List ℕ) → IsCompact 128 text → (answer : Result Opening TextFault) × OpeningText text answer

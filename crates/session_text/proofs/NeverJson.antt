@@ -33,18 +33,21 @@ record HasForm {A : Type 0} (Reads : Result A TextFault → Type 0) : Type 0 whe
 gives-form : {A : Type 0} (x : A) → HasForm (Gives x)
 gives-form x = record { never = λ found e. apart x (Json found) (sym e) }
 
-member-form : {A : Type 0} (IsForm : Option (List ℕ) → A → Type 0) (members : List Pair) (name : MemberName) → HasForm (MemberOf name IsForm members)
+member-form : {A : Type 0} (IsForm : Option (List ℕ) → A → Type 0) (members : List Pair) (name : MemberName)
+    → HasForm (MemberOf name IsForm members)
 member-form IsForm members name = record { never = λ found is. other found name is.1 }
   where
     other : (found : JsonFault) (which : MemberName) → Json found ≡ faults.Member which → ⊥
     other found which e = cc
 
-then-form : {A B : Type 0} (First : Result A TextFault → Type 0) (Next : A → Result B TextFault → Type 0) → HasForm First → ((x : A) → HasForm (Next x)) → HasForm (Then First Next)
+then-form : {A B : Type 0} (First : Result A TextFault → Type 0) (Next : A → Result B TextFault → Type 0)
+    → HasForm First → ((x : A) → HasForm (Next x)) → HasForm (Then First Next)
 then-form {A = A} {B = B} First Next first next = record { never = never }
   where
     never : (found : JsonFault) → Then First Next (Err (Json found)) → ⊥
     never found (goes_on x is more) = (next x).never found more
-    never found (ends fault is e) = first.never found (subst (λ f. First (Err f)) (sym (refused-same B (Json found) fault e)) is)
+    never found (ends fault is e) =
+        first.never found (subst (λ f. First (Err f)) (sym (refused-same B (Json found) fault e)) is)
 
 -- ---- members that several have
 text-form : (members : List Pair) (name : MemberName) → HasForm (TextOf name members)
@@ -72,41 +75,54 @@ ids-form : (members : List Pair) → HasForm (IdsOf members)
 ids-form members = member-form AreIds members names.Ids
 
 ids_and-form : (members : List Pair) (name : MemberName) → HasForm (IdsAnd name members)
-ids_and-form members name = then-form _ _ (ids-form members) (λ ids. then-form _ _ (text-form members name) (λ text. gives-form (ids, text)))
+ids_and-form members name =
+    then-form _ _ (ids-form members) (λ ids. then-form _ _ (text-form members name) (λ text. gives-form (ids, text)))
 
 end-form : (members : List Pair) → HasForm (EndOf members)
-end-form members = then-form _ _ (text-form members names.Arrow) (λ arrow. then-form _ _ (member-form IsSide members names.End) (λ side. gives-form (arrow, side)))
+end-form members = then-form _ _ (text-form members names.Arrow)
+    (λ arrow. then-form _ _ (member-form IsSide members names.End) (λ side. gives-form (arrow, side)))
 
 time-form : (replicas : ℕ) (members : List Pair) → HasForm (TimeOf replicas members)
 time-form replicas members =
-    then-form _ _ (member-form (IsFrom 0 replicas) members names.At) (λ at. then-form _ _ (member-form IsWholeNumber members names.Time) (λ time. gives-form (at, time)))
+    then-form _ _ (member-form (IsFrom 0 replicas) members names.At)
+    (λ at. then-form _ _ (member-form IsWholeNumber members names.Time) (λ time. gives-form (at, time)))
 
 held-form : (replicas : ℕ) (members : List Pair) → HasForm (HeldOf replicas members)
-held-form replicas members = then-form _ _ (member-form (IsFrom 0 replicas) members names.At) (λ at. then-form _ _ (text-form members names.Id) (λ id. gives-form (at, id)))
+held-form replicas members = then-form _ _ (member-form (IsFrom 0 replicas) members names.At)
+    (λ at. then-form _ _ (text-form members names.Id) (λ id. gives-form (at, id)))
 
 -- ---- commands
 named-form : (members : List Pair) (name : Asked) → HasForm (CommandNamed members name)
-named-form members asked.Create = then-form _ _ (element-form members) (λ e. then-form _ _ (member-form IsSpot members names.Spot) (λ spot. gives-form _))
+named-form members asked.Create = then-form _ _ (element-form members)
+    (λ e. then-form _ _ (member-form IsSpot members names.Spot) (λ spot. gives-form _))
 named-form members asked.Set =
-    then-form _ _ (text-form members names.Id) (λ id. then-form _ _ (text-form members names.Member) (λ name. then-form _ _ (member-form IsShallow members names.Value) (λ value. gives-form _)))
+    then-form _ _ (text-form members names.Id)
+    (λ id. then-form _ _ (text-form members names.Member)
+    (λ name. then-form _ _ (member-form IsShallow members names.Value) (λ value. gives-form _)))
 named-form members asked.Delete = then-form _ _ (ids-form members) (λ ids. gives-form _)
-named-form members asked.Place = then-form _ _ (text-form members names.Id) (λ id. then-form _ _ (member-form IsSpot members names.Spot) (λ spot. gives-form _))
+named-form members asked.Place = then-form _ _ (text-form members names.Id)
+    (λ id. then-form _ _ (member-form IsSpot members names.Spot) (λ spot. gives-form _))
 named-form members asked.Bind =
-    then-form _ _ (end-form members) (λ bound. then-form _ _ (text-form members names.Target) (λ target. then-form _ _ (member-form IsRest members names.Binding) (λ rest. gives-form _)))
+    then-form _ _ (end-form members) (λ bound. then-form _ _ (text-form members names.Target)
+    (λ target. then-form _ _ (member-form IsRest members names.Binding) (λ rest. gives-form _)))
 named-form members asked.Unbind = then-form _ _ (end-form members) (λ bound. gives-form _)
-named-form members asked.Label = then-form _ _ (text-form members names.Container) (λ container. then-form _ _ (text-form members names.Text) (λ text. gives-form _))
+named-form members asked.Label = then-form _ _ (text-form members names.Container)
+    (λ container. then-form _ _ (text-form members names.Text) (λ text. gives-form _))
 named-form members asked.Unlabel = then-form _ _ (text-form members names.Text) (λ text. gives-form _)
 named-form members asked.Frame = then-form _ _ (ids_and-form members names.Frame) (λ framed. gives-form _)
 named-form members asked.Unframe = then-form _ _ (ids-form members) (λ ids. gives-form _)
 named-form members asked.Group = then-form _ _ (ids_and-form members names.Group) (λ grouped. gives-form _)
 named-form members asked.Ungroup = then-form _ _ (ids_and-form members names.Group) (λ grouped. gives-form _)
 named-form members asked.Duplicate =
-    then-form _ _ (ids_and-form members names.Prefix) (λ copied. then-form _ _ (member-form IsSpot members names.Spot) (λ spot. gives-form _))
+    then-form _ _ (ids_and-form members names.Prefix) (λ copied. then-form _ _ (member-form IsSpot members names.Spot)
+    (λ spot. gives-form _))
 named-form members asked.Paste =
-    then-form _ _ (clip_of-form members) (λ clip. then-form _ _ (text-form members names.Prefix) (λ prefix. then-form _ _ (member-form IsSpot members names.Spot) (λ spot. gives-form _)))
+    then-form _ _ (clip_of-form members) (λ clip. then-form _ _ (text-form members names.Prefix)
+    (λ prefix. then-form _ _ (member-form IsSpot members names.Spot) (λ spot. gives-form _)))
 
 command-form : (members : List Pair) → HasForm (CommandIn members)
-command-form members = then-form _ _ (member-form HasObject members names.Command) (λ inner. then-form _ _ (member-form IsAsked inner names.Name) (named-form inner))
+command-form members = then-form _ _ (member-form HasObject members names.Command)
+    (λ inner. then-form _ _ (member-form IsAsked inner names.Name) (named-form inner))
 
 -- ---- the header and the events
 scene-form : (found : Option (List ℕ)) → HasForm (SceneOf found)
@@ -129,20 +145,25 @@ header-form members =
     then-form _ _ (member-form IsWholeNumber members names.Seed) (λ seed.
     then-form _ _ (scene-form (value_unless_null (codes "scene") members)) (λ scene. gives-form _))))
 
-happening-form : (replicas made : ℕ) (members : List Pair) (name : Happening) → HasForm (EventNamed replicas made members name)
+happening-form : (replicas made : ℕ) (members : List Pair) (name : Happening)
+    → HasForm (EventNamed replicas made members name)
 happening-form replicas made members happenings.Change =
-    then-form _ _ (time-form replicas members) (λ when. then-form _ _ (member-form IsCapture members names.Capture) (λ capture. then-form _ _ (command-form members) (λ command. gives-form _)))
+    then-form _ _ (time-form replicas members) (λ when. then-form _ _ (member-form IsCapture members names.Capture)
+    (λ capture. then-form _ _ (command-form members) (λ command. gives-form _)))
 happening-form replicas made members happenings.Update =
     then-form _ _ (then-form _ _ (member-form IsArray members names.Elements) drawings-form) (λ elements. gives-form _)
 happening-form replicas made members happenings.Deliver =
-    then-form _ _ (member-form (IsFrom 0 replicas) members names.To) (λ to. then-form _ _ (member-form (HasPicks made) members names.Picks) (λ picks. gives-form _))
+    then-form _ _ (member-form (IsFrom 0 replicas) members names.To)
+    (λ to. then-form _ _ (member-form (HasPicks made) members names.Picks) (λ picks. gives-form _))
 happening-form replicas made members happenings.Hold = then-form _ _ (held-form replicas members) (λ held. gives-form _)
-happening-form replicas made members happenings.Release = then-form _ _ (held-form replicas members) (λ held. gives-form _)
+happening-form replicas made members happenings.Release =
+    then-form _ _ (held-form replicas members) (λ held. gives-form _)
 happening-form replicas made members happenings.Undo = then-form _ _ (time-form replicas members) (λ when. gives-form _)
 happening-form replicas made members happenings.Redo = then-form _ _ (time-form replicas members) (λ when. gives-form _)
 
 event-form : (replicas made : ℕ) (members : List Pair) → HasForm (EventOf replicas made members)
-event-form replicas made members = then-form _ _ (member-form IsHappening members names.Do) (happening-form replicas made members)
+event-form replicas made members =
+    then-form _ _ (member-form IsHappening members names.Do) (happening-form replicas made members)
 
 -- ---- the lines of a living replica
 opening-form : (members : List Pair) → HasForm (OpeningOf members)
@@ -154,10 +175,13 @@ opening-form members =
 
 line_named-form : (members : List Pair) (name : LineName) → HasForm (LineNamed members name)
 line_named-form members named.Change =
-    then-form _ _ (member-form IsWholeNumber members names.Time) (λ time. then-form _ _ (member-form IsCapture members names.Capture) (λ capture. then-form _ _ (command-form members) (λ command. gives-form _)))
+    then-form _ _ (member-form IsWholeNumber members names.Time)
+    (λ time. then-form _ _ (member-form IsCapture members names.Capture)
+    (λ capture. then-form _ _ (command-form members) (λ command. gives-form _)))
 line_named-form members named.Undo = then-form _ _ (member-form IsWholeNumber members names.Time) (λ time. gives-form _)
 line_named-form members named.Redo = then-form _ _ (member-form IsWholeNumber members names.Time) (λ time. gives-form _)
-line_named-form members named.Take = then-form _ _ (then-form _ _ (member-form IsArray members names.Elements) drawings-form) (λ elements. gives-form _)
+line_named-form members named.Take =
+    then-form _ _ (then-form _ _ (member-form IsArray members names.Elements) drawings-form) (λ elements. gives-form _)
 line_named-form members named.Receive = then-form _ _ (text-form members names.Message) (λ text. gives-form _)
 line_named-form members named.Hold = then-form _ _ (text-form members names.Id) (λ id. gives-form _)
 line_named-form members named.Release = then-form _ _ (text-form members names.Id) (λ id. gives-form _)
@@ -180,7 +204,8 @@ object-form text = record { never = λ found is. other found is.1 }
 pub header_text-form : (text : List ℕ) (found : JsonFault) → HeaderText text (Err (Json found)) → ⊥
 header_text-form text = (then-form _ _ (object-form text) header-form).never
 
-pub event_text-form : (replicas made : ℕ) (text : List ℕ) (found : JsonFault) → EventText replicas made text (Err (Json found)) → ⊥
+pub event_text-form : (replicas made : ℕ) (text : List ℕ) (found : JsonFault)
+    → EventText replicas made text (Err (Json found)) → ⊥
 event_text-form replicas made text = (then-form _ _ (object-form text) (event-form replicas made)).never
 
 pub opening_text-form : (text : List ℕ) (found : JsonFault) → OpeningText text (Err (Json found)) → ⊥

@@ -30,7 +30,8 @@ pub record IsOne {A : Type 0} (Reads : Result A TextFault → Type 0) : Type 0 w
 pub gives-one : {A : Type 0} (x : A) → IsOne (Gives x)
 gives-one x = record { some = (Ok x, refl); once = λ a b e f. e ∙ sym f }
 
-pub or-one : {A : Type 0} (Is : A → Type 0) (fault : TextFault) → Decided Is → ((x y : A) → Is x → Is y → x ≡ y) → IsOne (Or Is fault)
+pub or-one : {A : Type 0} (Is : A → Type 0) (fault : TextFault) → Decided Is → ((x y : A) → Is x → Is y → x ≡ y)
+    → IsOne (Or Is fault)
 or-one {A = A} Is fault decided alike = record { some = by decided; once = one }
   where
     by : Decided Is → (answer : Result A TextFault) × Or Is fault answer
@@ -43,7 +44,8 @@ or-one {A = A} Is fault decided alike = record { some = by decided; once = one }
     one (Err f) (Ok y) is also = absurd (is.0 y also)
     one (Err f) (Err g) is also = ap refused (is.1 ∙ sym also.1)
 
-pub then-one : {A B : Type 0} (First : Result A TextFault → Type 0) (Next : A → Result B TextFault → Type 0) → IsOne First → ((x : A) → First (Ok x) → IsOne (Next x)) → IsOne (Then First Next)
+pub then-one : {A B : Type 0} (First : Result A TextFault → Type 0) (Next : A → Result B TextFault → Type 0)
+    → IsOne First → ((x : A) → First (Ok x) → IsOne (Next x)) → IsOne (Then First Next)
 then-one {A = A} {B = B} First Next first next = record { some = by first.some.0 first.some.1; once = one }
   where
     by : (answer : Result A TextFault) → First answer → (b : Result B TextFault) × Then First Next b
@@ -56,10 +58,12 @@ then-one {A = A} {B = B} First Next first next = record { some = by first.some.0
         (next x is).once a b more (subst (λ z. Next z b) (sym same) other)
     one a b (goes_on x is more) (ends g also f) = absurd (apart x g (first.once (Ok x) (Err g) is also))
     one a b (ends f is e) (goes_on y also other) = absurd (apart y f (first.once (Ok y) (Err f) also is))
-    one a b (ends f is e) (ends g also e') = e ∙ (ap refused (refused-same A f g (first.once (Err f) (Err g) is also)) ∙ sym e')
+    one a b (ends f is e) (ends g also e') =
+        e ∙ (ap refused (refused-same A f g (first.once (Err f) (Err g) is also)) ∙ sym e')
 
 -- ---- what was read first, where something is read
-pub then-ok : {A B : Type 0} (First : Result A TextFault → Type 0) (Next : A → Result B TextFault → Type 0) (y : B) → Then First Next (Ok y) → (x : A) × First (Ok x) × Next x (Ok y)
+pub then-ok : {A B : Type 0} (First : Result A TextFault → Type 0) (Next : A → Result B TextFault → Type 0) (y : B)
+    → Then First Next (Ok y) → (x : A) × First (Ok x) × Next x (Ok y)
 then-ok First Next y (goes_on x is more) = (x, is, more)
 then-ok First Next y (ends fault is e) = absurd (apart y fault e)
 
@@ -67,16 +71,19 @@ pub gives-ok : {A : Type 0} (x y : A) → Gives x (Ok y) → y ≡ x
 gives-ok x y e = given-same e
 
 -- ---- calls
-pub went_on : {A B : Type 0} {First : Result A TextFault → Type 0} {Next : A → Result B TextFault → Type 0} {x : A} {result : Result B (Stop TextFault)}
+pub went_on : {A B : Type 0} {First : Result A TextFault → Type 0} {Next : A → Result B TextFault
+    → Type 0} {x : A} {result : Result B (Stop TextFault)}
     → IsReadResult First (Ok x) → IsReadResult (Next x) result → IsReadResult (Then First Next) result
-went_on {A = A} {B = B} {First = First} {Next = Next} {x = x} {result = result} is more = record { read = by result more.read }
+went_on {A = A} {B = B} {First = First} {Next = Next} {x = x} {result = result} is more =
+    record { read = by result more.read }
   where
     by : (r : Result B (Stop TextFault)) → Answers (Next x) r → Answers (Then First Next) r
     by (Ok y) reads = goes_on x is.read reads
     by (Err (Fault fault)) reads = goes_on x is.read reads
     by (Err Memory) reads = tt
 
-pub stopped : {A B : Type 0} {First : Result A TextFault → Type 0} {Next : A → Result B TextFault → Type 0} {stop : Stop TextFault}
+pub stopped : {A B : Type 0} {First : Result A TextFault → Type 0} {Next : A → Result B TextFault
+    → Type 0} {stop : Stop TextFault}
     → IsReadResult First (Err stop) → IsReadResult (Then First Next) (Err stop)
 stopped {A = A} {B = B} {First = First} {Next = Next} {stop = stop} is = record { read = by stop is.read }
   where
@@ -91,18 +98,21 @@ given_last = record { read = refl }
 pub wanting : {A : Type 0} {Reads : Result A TextFault → Type 0} → IsReadResult Reads (Err Memory)
 wanting = record { read = tt }
 
-pub told : {A : Type 0} (Reads : Result A TextFault → Type 0) (stop : Stop TextFault) (fault : TextFault) → IsReadResult Reads (Err stop) → stop ≡ Fault fault → Reads (Err fault)
+pub told : {A : Type 0} (Reads : Result A TextFault → Type 0) (stop : Stop TextFault) (fault : TextFault)
+    → IsReadResult Reads (Err stop) → stop ≡ Fault fault → Reads (Err fault)
 told Reads stop fault is same = by (subst (λ (s : Stop TextFault). IsReadResult Reads (Err s)) same is)
   where
     by : IsReadResult Reads (Err (Fault fault)) → Reads (Err fault)
     by is = is.read
 
 -- what holds of all that is read, where something is
-pub ok-told : {A : Type 0} (Reads : Result A TextFault → Type 0) (P : A → Type 0) (result : Result A (Stop TextFault)) → IsReadResult Reads result → ((x : A) → Reads (Ok x) → P x) → IfOk result P
+pub ok-told : {A : Type 0} (Reads : Result A TextFault → Type 0) (P : A → Type 0) (result : Result A (Stop TextFault))
+    → IsReadResult Reads result → ((x : A) → Reads (Ok x) → P x) → IfOk result P
 ok-told Reads P (Ok x) is holds = holds x is.read
 ok-told Reads P (Err stop) is holds = tt
 
-pub fault-told : {A : Type 0} (Reads : Result A TextFault → Type 0) (result : Result A (Stop TextFault)) (fault : TextFault) → IsReadResult Reads result → result ≡ Err (Fault fault) → Reads (Err fault)
+pub fault-told : {A : Type 0} (Reads : Result A TextFault → Type 0) (result : Result A (Stop TextFault))
+    (fault : TextFault) → IsReadResult Reads result → result ≡ Err (Fault fault) → Reads (Err fault)
 fault-told Reads result fault is same = by (subst (IsReadResult Reads) same is)
   where
     by : IsReadResult Reads (Err (Fault fault)) → Reads (Err fault)

@@ -11,11 +11,13 @@ use Rattle.session_text.specs.declared.session.Session.{Session}
 use Rattle.session_text.proofs.Brought.{header-elements, event-brings}
 use Rattle.session_text.proofs.Kept.{header-kept, event-kept}
 
-all-more : (P : Event → Type 0) (events : List Event) (event : Event) → AllByRecursion P events → P event → AllByRecursion P (events ++ event ∷ [])
+all-more : (P : Event → Type 0) (events : List Event) (event : Event) → AllByRecursion P events → P event
+    → AllByRecursion P (events ++ event ∷ [])
 all-more P [] event all is = (is, tt)
 all-more P (first ∷ events) event (one, all) is = (one, all-more P events event all is)
 
-picks-more : (made : ℕ) (events : List Event) (event : Event) → PickMade made events → PicksMade (made_after made events) event → PickMade made (events ++ event ∷ [])
+picks-more : (made : ℕ) (events : List Event) (event : Event) → PickMade made events
+    → PicksMade (made_after made events) event → PickMade made (events ++ event ∷ [])
 picks-more made [] event all is = (is, tt)
 picks-more made (first ∷ events) event (one, all) is = (one, picks-more (made + messages_of first) events event all is)
 
@@ -36,7 +38,8 @@ session-begun text head says =
       picks = tt;
     }
 
-pub session-more : (session : Session) (text : List ℕ) (event : Event) → IsSession session → length session.events < most_events
+pub session-more : (session : Session) (text : List ℕ) (event : Event) → IsSession session
+    → length session.events < most_events
     → EventText session.replicas (made_after 0 session.events) text (Ok event) → IsSession (with_event session event)
 session-more session text event is fewer says =
     let kept = event-kept session.replicas (made_after 0 session.events) text event says in
@@ -49,6 +52,7 @@ session-more session text event is fewer says =
       few = omega (arith, fewer, length-append session.events (event ∷ []));
       places = all-more (IsAmong session.replicas) session.events event is.places kept.place;
       limits = all-more IsEventWithinLimits session.events event is.limits kept.limits;
-      brings = all-more BringsElements session.events event is.brings (event-brings session.replicas (made_after 0 session.events) text event says);
+      brings = all-more BringsElements session.events event is.brings
+          (event-brings session.replicas (made_after 0 session.events) text event says);
       picks = picks-more 0 session.events event is.picks kept.picks;
     }

@@ -26,12 +26,14 @@ use Rattle.session_text.proofs.Readings.{IsOne}
 
 -- ---- a scene
 alone : (text : List ℕ) → IsCompact 128 text → Stands text text []
-alone text compact = record { blank = []; value = text; parts = sym (append-nil text); space = refl; reads = compact; ends = tt }
+alone text compact =
+    record { blank = []; value = text; parts = sym (append-nil text); space = refl; reads = compact; ends = tt }
 
 scene-at : (value : List ℕ) (scene : Board) → IsCompact 128 value → IsSceneOf value scene → IsSceneAt value scene []
 scene-at value scene compact is = record { text = value; stands = alone value compact; says = is }
 
-fault-of : (value : List ℕ) (fault : SceneFault) → IsCompact 128 value → IsSceneFaultAt value 0 fault → IsSceneFault value fault
+fault-of : (value : List ℕ) (fault : SceneFault) → IsCompact 128 value → IsSceneFaultAt value 0 fault
+    → IsSceneFault value fault
 fault-of value fault compact is = by fault is
   where
     same : (text rest : List ℕ) → Stands value text rest → text ≡ value
@@ -39,14 +41,17 @@ fault-of value fault compact is = by fault is
 
     by : (f : SceneFault) → IsSceneFaultAt value 0 f → IsSceneFault value f
     by (scenes.Json found) first = absurd (first.faulty value [] (alone value compact))
-    by scenes.NotObject (text, rest, stands, is) = subst (λ t. IsSceneFault t scenes.NotObject) (same text rest stands) is
+    by scenes.NotObject (text, rest, stands, is) =
+        subst (λ t. IsSceneFault t scenes.NotObject) (same text rest stands) is
     by scenes.NotScene (text, rest, stands, is) = subst (λ t. IsSceneFault t scenes.NotScene) (same text rest stands) is
     by scenes.Elements (text, rest, stands, is) = subst (λ t. IsSceneFault t scenes.Elements) (same text rest stands) is
     by scenes.AppState (text, rest, stands, is) = subst (λ t. IsSceneFault t scenes.AppState) (same text rest stands) is
     by scenes.Files (text, rest, stands, is) = subst (λ t. IsSceneFault t scenes.Files) (same text rest stands) is
-    by (scenes.Element place why) (text, rest, stands, is) = subst (λ t. IsSceneFault t (scenes.Element place why)) (same text rest stands) is
+    by (scenes.Element place why) (text, rest, stands, is) =
+        subst (λ t. IsSceneFault t (scenes.Element place why)) (same text rest stands) is
 
-scene-told : (value : List ℕ) → IsCompact 128 value → (answer : Result (Option Board) TextFault) × SceneOf (Some value) answer
+scene-told : (value : List ℕ) → IsCompact 128 value → (answer : Result (Option Board) TextFault)
+    × SceneOf (Some value) answer
 scene-told value compact = elim (scene-or-fault value 0 (omega arith)) [
   | inl (scene, end, s) ↦
       let at = s.stands in
@@ -54,18 +59,23 @@ scene-told value compact = elim (scene-or-fault value 0 (omega arith)) [
   | inr (found, is) ↦ (Err (Scene found), (found, refl, fault-of value found compact is))
 ]
 
-scene-alike : (value : List ℕ) → IsCompact 128 value → (a b : Result (Option Board) TextFault) → SceneOf (Some value) a → SceneOf (Some value) b → a ≡ b
+scene-alike : (value : List ℕ) → IsCompact 128 value → (a b : Result (Option Board) TextFault) → SceneOf (Some value) a
+    → SceneOf (Some value) b → a ≡ b
 scene-alike value compact (Ok None) b is also = absurd is
 scene-alike value compact (Ok (Some s)) (Ok None) is also = absurd also
 scene-alike value compact (Err f) (Ok None) is also = absurd also
 scene-alike value compact (Ok (Some s)) (Ok (Some t)) is also =
     ap (λ x. Ok (Some x)) (scene-once (scene-at value s compact is) (scene-at value t compact also)).0
 scene-alike value compact (Ok (Some s)) (Err f) is (why, e, faulty) =
-    absurd (fault-none value 0 why (behind value 0 why value [] (alone value compact) faulty) (scene-at value s compact is))
+    absurd (fault-none value 0 why (behind value 0 why value [] (alone value compact) faulty)
+    (scene-at value s compact is))
 scene-alike value compact (Err f) (Ok (Some t)) (why, e, faulty) also =
-    absurd (fault-none value 0 why (behind value 0 why value [] (alone value compact) faulty) (scene-at value t compact also))
+    absurd (fault-none value 0 why (behind value 0 why value [] (alone value compact) faulty)
+    (scene-at value t compact also))
 scene-alike value compact (Err f) (Err g) (why, e, faulty) (other, e', also) =
-    ap (λ h. Err h) (e ∙ (ap Scene (fault-once value 0 why other (behind value 0 why value [] (alone value compact) faulty) (behind value 0 other value [] (alone value compact) also)) ∙ sym e'))
+    ap (λ h. Err h) (e
+    ∙ (ap Scene (fault-once value 0 why other (behind value 0 why value [] (alone value compact) faulty)
+    (behind value 0 other value [] (alone value compact) also)) ∙ sym e'))
 
 pub scene-one : (found : Option (List ℕ)) → Fits found → IsOne (SceneOf found)
 scene-one None fits = record { some = (Ok None, refl); once = λ a b e f. e ∙ sym f }
@@ -79,13 +89,15 @@ drawn-told value compact = elim (read-exists value compact) [
   | inr (inr (why, is)) ↦ (Err (Element 0 why), (why, refl, inl is))
 ]
 
-whys : (value : List ℕ) (why other : ElemFault) → IsFaultIn value why ⊎ (IsSelection value × (why ≡ Kind)) → IsFaultIn value other ⊎ (IsSelection value × (other ≡ Kind)) → why ≡ other
+whys : (value : List ℕ) (why other : ElemFault) → IsFaultIn value why ⊎ (IsSelection value × (why ≡ Kind))
+    → IsFaultIn value other ⊎ (IsSelection value × (other ≡ Kind)) → why ≡ other
 whys value why other (inl is) (inl also) = elements.fault-once value why other is also
 whys value why other (inl is) (inr also) = absurd (fault-dropped value why is also.0)
 whys value why other (inr is) (inl also) = absurd (fault-dropped value other also is.0)
 whys value why other (inr is) (inr also) = is.1 ∙ sym also.1
 
-no-why : (value : List ℕ) (e : ElementValue) (why : ElemFault) → IsElementIn value e → IsFaultIn value why ⊎ (IsSelection value × (why ≡ Kind)) → ⊥
+no-why : (value : List ℕ) (e : ElementValue) (why : ElemFault) → IsElementIn value e → IsFaultIn value why
+    ⊎ (IsSelection value × (why ≡ Kind)) → ⊥
 no-why value e why is (inl fault) = element-faultless value e why is fault
 no-why value e why is (inr dropped) = element-kept value e is dropped.0
 
@@ -117,13 +129,15 @@ pub clip-one : (value : List ℕ) → IsCompact 128 value → IsOne (IsClipIn va
 clip-one value compact = record { some = clip-told value compact; once = clip-alike value }
 
 -- ---- elements
-drawings-told : (values : List (List ℕ)) → AllByRecursion (IsCompact 127) values → (answer : Result (List ElementValue) TextFault) × AreDrawnAs values answer
+drawings-told : (values : List (List ℕ)) → AllByRecursion (IsCompact 127) values
+    → (answer : Result (List ElementValue) TextFault) × AreDrawnAs values answer
 drawings-told values all = elim (read-or-faulty values all) [
   | inl (es, read) ↦ (Ok es, read)
   | inr (place, why, is) ↦ (Err (Element place why), (place, why, refl, is))
 ]
 
-drawings-alike : (values : List (List ℕ)) (a b : Result (List ElementValue) TextFault) → AreDrawnAs values a → AreDrawnAs values b → a ≡ b
+drawings-alike : (values : List (List ℕ)) (a b : Result (List ElementValue) TextFault) → AreDrawnAs values a
+    → AreDrawnAs values b → a ≡ b
 drawings-alike values (Ok es) (Ok ds) is also = ap (λ x. Ok x) (read-once values es ds is also)
 drawings-alike values (Ok es) (Err f) is (place, why, same, also) = absurd (faultless values es place why is also)
 drawings-alike values (Err f) (Ok ds) (place, why, same, is) also = absurd (faultless values ds place why also is)

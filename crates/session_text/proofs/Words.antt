@@ -24,7 +24,8 @@ abbrev pub seek : {A : Type 0} → (A → List ℕ) → List A → List ℕ → 
 seek word [] value = None
 seek word (x ∷ xs) value = if bytes_eq value (word x) then Some x else seek word xs value
 
-seek-found : {A : Type 0} (word : A → List ℕ) (xs : List A) (value : List ℕ) → ((x : A) × (value ≡ word x)) ⊎ (seek word xs value ≡ None)
+seek-found : {A : Type 0} (word : A → List ℕ) (xs : List A) (value : List ℕ) → ((x : A) × (value ≡ word x))
+    ⊎ (seek word xs value ≡ None)
 seek-found word [] value = inr refl
 seek-found word (x ∷ xs) value = elim (cases_Bool (bytes_eq value (word x))) [
   | inl e ↦ inl (x, bytes_eq-true value (word x) e)
@@ -35,12 +36,14 @@ seek-found word (x ∷ xs) value = elim (cases_Bool (bytes_eq value (word x))) [
 abbrev pub AreTold : {A : Type 0} → (A → List ℕ) → List A → Type 0
 AreTold word xs = (x : _) → seek word xs (word x) ≡ Some x
 
-pub word-once : {A : Type 0} (word : A → List ℕ) (xs : List A) → AreTold word xs → (value : List ℕ) (x y : A) → value ≡ word x → value ≡ word y → x ≡ y
+pub word-once : {A : Type 0} (word : A → List ℕ) (xs : List A) → AreTold word xs → (value : List ℕ) (x y : A)
+    → value ≡ word x → value ≡ word y → x ≡ y
 word-once word xs told value x y e f =
     let same : Some x ≡ Some y = sym (told x) ∙ (ap (seek word xs) (sym e ∙ f) ∙ told y) in
     cc
 
-pub word-or-not : {A : Type 0} (word : A → List ℕ) (xs : List A) → AreTold word xs → (value : List ℕ) → Decided (λ (x : A). value ≡ word x)
+pub word-or-not : {A : Type 0} (word : A → List ℕ) (xs : List A) → AreTold word xs → (value : List ℕ)
+    → Decided (λ (x : A). value ≡ word x)
 word-or-not word xs told value = elim (seek-found word xs value) [
   | inl found ↦ inl found
   | inr none ↦ inr (λ x e. let two : None ≡ Some x = sym none ∙ (ap (seek word xs) e ∙ told x) in cc)
@@ -65,7 +68,8 @@ sides-told sides.End = refl
 
 pub all_asked : List Asked
 all_asked =
-    asked.Create ∷ asked.Set ∷ asked.Delete ∷ asked.Place ∷ asked.Bind ∷ asked.Unbind ∷ asked.Label ∷ asked.Unlabel ∷ asked.Frame
+    asked.Create ∷ asked.Set ∷ asked.Delete ∷ asked.Place ∷ asked.Bind ∷ asked.Unbind ∷ asked.Label ∷ asked.Unlabel
+    ∷ asked.Frame
     ∷ asked.Unframe ∷ asked.Group ∷ asked.Ungroup ∷ asked.Duplicate ∷ asked.Paste ∷ []
 
 pub asked-told : AreTold asked_text all_asked
@@ -87,7 +91,8 @@ asked-told asked.Paste = refl
 
 pub all_happenings : List Happening
 all_happenings =
-    happenings.Change ∷ happenings.Update ∷ happenings.Deliver ∷ happenings.Hold ∷ happenings.Release ∷ happenings.Undo ∷ happenings.Redo ∷ []
+    happenings.Change ∷ happenings.Update ∷ happenings.Deliver ∷ happenings.Hold ∷ happenings.Release ∷ happenings.Undo
+    ∷ happenings.Redo ∷ []
 
 pub happenings-told : AreTold happening_text all_happenings
 unfolding all_happenings quote

@@ -1,4 +1,5 @@
--- The commands of a session: by its name a command has these members, in this order. This project's own.
+-- The commands of a session: by its name a command has these members, in this order. This project's
+-- own.
 use Rattle.std.specs.Prelude.{◌≡◌, ◌⊎◌, ℕ, List, Option, Some, Ok, Err, codes}
 use Rattle.json_text.specs.Characters.{quote}
 use Rattle.json_text.specs.Compact.{Member as Pair}
@@ -42,7 +43,8 @@ asked_text asked.Paste = quote (codes "paste")
 abbrev pub IsAsked : Option (List ℕ) → Asked → Type 0
 IsAsked found name = found ≡ Some (asked_text name)
 
--- The value is this element. Its fault is told with the place 0, and one of type `selection` has a fault of its type.
+-- The value is this element. Its fault is told with the place 0, and one of type `selection` has a
+-- fault of its type.
 abbrev pub IsDrawnAs : List ℕ → Reading ElementValue
 IsDrawnAs value (Ok e) = IsElementIn value e
 IsDrawnAs value (Err fault) =
@@ -85,7 +87,8 @@ CommandNamed members asked.Create answer =
     (λ spot. Gives (commands.Create e spot))) answer
 CommandNamed members asked.Set answer =
     Then (TextOf names.Id members) (λ id. Then (TextOf names.Member members) (λ name.
-    Then (MemberOf names.Value IsShallow members) (λ value. Gives (commands.Set id name value)))) answer
+    Then (MemberOf names.Value IsShallow members) (λ value. Gives (commands.Set id name value))))
+    answer
 CommandNamed members asked.Delete answer =
     Then (IdsOf members) (λ ids. Gives (commands.Delete ids)) answer
 CommandNamed members asked.Place answer =
@@ -93,12 +96,14 @@ CommandNamed members asked.Place answer =
     (λ spot. Gives (commands.Place id spot))) answer
 CommandNamed members asked.Bind answer =
     Then (EndOf members) (λ bound. Then (TextOf names.Target members) (λ target.
-    Then (MemberOf names.Binding IsRest members) (λ rest. Gives (commands.Bind bound.0 bound.1 target rest)))) answer
+    Then (MemberOf names.Binding IsRest members)
+    (λ rest. Gives (commands.Bind bound.0 bound.1 target rest)))) answer
 CommandNamed members asked.Unbind answer =
     Then (EndOf members) (λ bound. Gives (commands.Unbind bound.0 bound.1)) answer
 CommandNamed members asked.Label answer =
     Then (TextOf names.Container members)
-    (λ container. Then (TextOf names.Text members) (λ text. Gives (commands.Label container text))) answer
+    (λ container. Then (TextOf names.Text members) (λ text. Gives (commands.Label container text)))
+    answer
 CommandNamed members asked.Unlabel answer =
     Then (TextOf names.Text members) (λ text. Gives (commands.Unlabel text)) answer
 CommandNamed members asked.Frame answer =
@@ -108,13 +113,15 @@ CommandNamed members asked.Unframe answer =
 CommandNamed members asked.Group answer =
     Then (IdsAnd names.Group members) (λ grouped. Gives (commands.Group grouped.0 grouped.1)) answer
 CommandNamed members asked.Ungroup answer =
-    Then (IdsAnd names.Group members) (λ grouped. Gives (commands.Ungroup grouped.0 grouped.1)) answer
+    Then (IdsAnd names.Group members) (λ grouped. Gives (commands.Ungroup grouped.0 grouped.1))
+    answer
 CommandNamed members asked.Duplicate answer =
     Then (IdsAnd names.Prefix members) (λ copied. Then (MemberOf names.Spot IsSpot members)
     (λ spot. Gives (commands.Duplicate copied.0 copied.1 spot))) answer
 CommandNamed members asked.Paste answer =
     Then (ClipOf members) (λ clip. Then (TextOf names.Prefix members) (λ prefix.
-    Then (MemberOf names.Spot IsSpot members) (λ spot. Gives (commands.Paste clip.elements prefix spot)))) answer
+    Then (MemberOf names.Spot IsSpot members)
+    (λ spot. Gives (commands.Paste clip.elements prefix spot)))) answer
 
 -- The members of a command say this command.
 abbrev pub CommandOf : List Pair → Reading Command

@@ -1,4 +1,5 @@
--- The header and the events of a session: which members they have, in this order. This project's own.
+-- The header and the events of a session: which members they have, in this order. This project's
+-- own.
 use Rattle.std.specs.Prelude.{◌≡◌, ℕ, List, Option, Some, None, Ok, Err, codes}
 use Rattle.json_text.specs.Characters.{quote}
 use Rattle.json_text.specs.Compact.{Member as Pair}
@@ -38,7 +39,8 @@ HeaderOf members answer =
     Then (MemberOf names.Session (IsFrom 1 2) members) (λ version.
     Then (MemberOf names.Replicas (IsFrom 1 65) members) (λ replicas.
     Then (MemberOf names.Seed IsWholeNumber members) (λ seed.
-    Then (SceneOf (value_unless_null (codes "scene") members)) (λ scene. Gives (header replicas seed scene))))) answer
+    Then (SceneOf (value_unless_null (codes "scene") members))
+    (λ scene. Gives (header replicas seed scene))))) answer
 
 -- ---- the events
 abbrev pub happening_text : Happening → List ℕ
@@ -84,12 +86,14 @@ abbrev pub EventNamed : ℕ → ℕ → List Pair → Happening → Reading Even
 EventNamed replicas made members happenings.Change answer =
     Then (TimeOf replicas members) (λ when.
     Then (MemberOf names.Capture IsCapture members) (λ capture.
-    Then (CommandIn members) (λ command. Gives (events.Change when.0 when.1 capture command)))) answer
+    Then (CommandIn members) (λ command. Gives (events.Change when.0 when.1 capture command))))
+    answer
 EventNamed replicas made members happenings.Update answer =
     Then (ElementsIn members) (λ elements. Gives (events.Update elements)) answer
 EventNamed replicas made members happenings.Deliver answer =
     Then (MemberOf names.To (IsFrom 0 replicas) members) (λ to.
-    Then (MemberOf names.Picks (HasPicks made) members) (λ picks. Gives (events.Deliver to picks))) answer
+    Then (MemberOf names.Picks (HasPicks made) members) (λ picks. Gives (events.Deliver to picks)))
+    answer
 EventNamed replicas made members happenings.Hold answer =
     Then (HeldOf replicas members) (λ held. Gives (events.Hold held.0 held.1)) answer
 EventNamed replicas made members happenings.Release answer =

@@ -35,8 +35,8 @@ IsEventWithinLimits (Release at id) = Unit {0}
 IsEventWithinLimits (Undo at time) = time ≤ greatest_whole
 IsEventWithinLimits (Redo at time) = time ≤ greatest_whole
 
--- What it brings is of elements: those of an update are, and what a command creates; and the texts that this writes are
--- UTF-8.
+-- What it brings is of elements: those of an update are, and what a command creates; and the texts
+-- that this writes are UTF-8.
 abbrev pub BringsElements : Event → Type 0
 BringsElements (Change at time capture command) = IsWrittenCommand command
 BringsElements (Update elements) = AreElements elements
@@ -66,9 +66,9 @@ abbrev pub PickMade : ℕ → List Event → Type 0
 PickMade made [] = Unit {0}
 PickMade made (event ∷ events) = PicksMade made event × PickMade (made + messages_of event) events
 
--- There are 1 to 64 replicas, and not too many events. The seed is within its limit, and those of the scene are
--- elements, each with a key. The events are at these replicas, within their limits, bring elements, and pick of
--- messages that are made.
+-- There are 1 to 64 replicas, and not too many events. The seed is within its limit, and those of
+-- the scene are elements, each with a key. The events are at these replicas, within their limits,
+-- bring elements, and pick of messages that are made.
 pub record IsSession (session : Session) : Type 0 where
   pub some : 1 ≤ session.replicas
   pub most : session.replicas ≤ 64

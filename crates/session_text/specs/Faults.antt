@@ -13,5 +13,6 @@ session_fault_words (Json fault) = json_words fault
 session_fault_words NotObject = codes "not an object"
 session_fault_words (Member name) = codes "member " ++ word_of name
 session_fault_words (Scene fault) = codes "scene: " ++ scenes.scene_fault_words fault
-session_fault_words (Element place fault) = codes "element " ++ (decimal place ++ (codes ": " ++ elements.fault_word fault))
+session_fault_words (Element place fault) =
+    codes "element " ++ (decimal place ++ (codes ": " ++ elements.fault_word fault))
 session_fault_words (Clip fault) = codes "clip: " ++ clips.clip_fault_words fault

@@ -1,5 +1,5 @@
--- What the member of a session's text may be, and what it stands for: each form is a relation between what was found
--- under the member's name and what that is read as. This project's own.
+-- What the member of a session's text may be, and what it stands for: each form is a relation
+-- between what was found under the member's name and what that is read as. This project's own.
 use Rattle.std.specs.Prelude.{◌≡◌, ℕ, ◌<◌, ◌≤◌, List, [], ◌∷◌, Option, Some, None, codes, bytes_eq}
 use Rattle.std.specs.List.{AllByRecursion}
 use Rattle.json_text.specs.Characters.{quote}
@@ -62,7 +62,8 @@ IsSide found side = found ≡ Some (side_text side)
 
 -- an object that names an id
 abbrev pub IsSpotAfter : List ℕ → List ℕ → Type 0
-IsSpotAfter value id = (members : List Pair) × IsObject value members × IsText (value_at (codes "after") members) id
+IsSpotAfter value id =
+    (members : List Pair) × IsObject value members × IsText (value_at (codes "after") members) id
 
 -- a word or an object that names an id; a missing spot is the top
 abbrev pub IsSpot : Option (List ℕ) → Spot → Type 0
@@ -75,7 +76,8 @@ IsSpot (Some value) (spots.After id) = IsSpotAfter value id
 abbrev pub IsRest : Option (List ℕ) → List Member → Type 0
 IsRest None rest = rest ≡ []
 IsRest (Some value) rest =
-    IsCompact 100 value × ((members : List Pair) × IsObject value members × AreOthers (bytes_eq (codes "elementId")) (find_in members) rest)
+    IsCompact 100 value × ((members : List Pair) × IsObject value members
+    × AreOthers (bytes_eq (codes "elementId")) (find_in members) rest)
 
 -- two values, the numbers of a message, below that of those made so far, and of an element
 abbrev pub IsPair : ℕ → List (List ℕ) → ℕ × ℕ → Type 0

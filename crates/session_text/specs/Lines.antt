@@ -30,7 +30,8 @@ OpeningOf members answer =
     Then (MemberOf names.Replica (IsFrom 1 2) members) (λ version.
     Then (MemberOf names.Number (IsFrom 0 64) members) (λ number.
     Then (MemberOf names.Seed IsWholeNumber members) (λ seed.
-    Then (SceneOf (value_unless_null (codes "scene") members)) (λ scene. Gives (opening number seed scene))))) answer
+    Then (SceneOf (value_unless_null (codes "scene") members))
+    (λ scene. Gives (opening number seed scene))))) answer
 
 -- ---- the lines behind it
 abbrev pub line_name_text : LineName → List ℕ
@@ -87,7 +88,8 @@ LineText text answer = ObjectOf LineOf text answer
 -- ---- what holds of all that is read
 -- Its time is within the limit of times, and its command within those of commands.
 abbrev pub IsLineWithinLimits : Line → Type 0
-IsLineWithinLimits (lines.Change time capture command) = (time ≤ greatest_whole) × IsWithinLimits command
+IsLineWithinLimits (lines.Change time capture command) =
+    (time ≤ greatest_whole) × IsWithinLimits command
 IsLineWithinLimits (lines.Undo time) = time ≤ greatest_whole
 IsLineWithinLimits (lines.Redo time) = time ≤ greatest_whole
 IsLineWithinLimits (lines.Take elements) = Unit {0}
@@ -100,8 +102,8 @@ IsLineWithinLimits (lines.Stored id) = Unit {0}
 IsLineWithinLimits lines.Lengths = Unit {0}
 IsLineWithinLimits lines.Pending = Unit {0}
 
--- What it brings is of elements: those that are taken are, and what a command creates; and the texts that this writes
--- are UTF-8.
+-- What it brings is of elements: those that are taken are, and what a command creates; and the
+-- texts that this writes are UTF-8.
 abbrev pub LineBringsElements : Line → Type 0
 LineBringsElements (lines.Change time capture command) = IsWrittenCommand command
 LineBringsElements (lines.Undo time) = Unit {0}
@@ -116,7 +118,8 @@ LineBringsElements (lines.Stored id) = Unit {0}
 LineBringsElements lines.Lengths = Unit {0}
 LineBringsElements lines.Pending = Unit {0}
 
--- It is one of 64 replicas. The seed is within its limit, and those of the scene are elements, each with a key.
+-- It is one of 64 replicas. The seed is within its limit, and those of the scene are elements, each
+-- with a key.
 pub record IsReplicaOpening (opening : Opening) : Type 0 where
   pub number : opening.number < 64
   pub seed : opening.seed ≤ greatest_whole

@@ -1,4 +1,5 @@
--- The names of the members of a session's texts, and of a living replica's lines. This project's own.
+-- The names of the members of a session's texts, and of a living replica's lines. This project's
+-- own.
 use Rattle.std.specs.Prelude.{ℕ, List, codes}
 use Rattle.session_text.specs.declared.name.MemberName.{MemberName}
 use Rattle.session_text.specs.declared.name.MemberName.TheVariants as names

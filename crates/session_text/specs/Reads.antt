@@ -31,7 +31,8 @@ abbrev pub Gives : {A : Type 0} → A → Reading A
 Gives x answer = answer ≡ Ok x
 
 -- One thing is read, and then what follows from it; the first fault of the two is the fault.
-pub data Then {A B : Type 0} (First : Result A TextFault → Type 0) (Next : A → Result B TextFault → Type 0)
+pub data Then {A B : Type 0} (First : Result A TextFault → Type 0) (Next : A → Result B TextFault
+    → Type 0)
     (answer : Result B TextFault) : Type 0 where
   goes_on : (x : A) → First (Ok x) → Next x answer → Then First Next answer
   ends : (fault : TextFault) → First (Err fault) → answer ≡ Err fault → Then First Next answer

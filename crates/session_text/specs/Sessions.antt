@@ -18,12 +18,14 @@ use Rattle.session_text.specs.declared.session.Session.{Session}
 abbrev pub most_events : ℕ
 most_events = 250000
 
--- At the front a value stands, behind white space and in whatever spelling, and says this; the rest follows it.
+-- At the front a value stands, behind white space and in whatever spelling, and says this; the rest
+-- follows it.
 abbrev pub StandsAs : {A : Type 0} → (List ℕ → Result A TextFault → Type 0) → List ℕ → A → List ℕ
     → Type 0
 StandsAs Says bytes x rest = (text : List ℕ) × Stands bytes text rest × Says text (Ok x)
 
--- The text behind the offset has this first fault: of its JSON form, or of what it says. Places count over all bytes.
+-- The text behind the offset has this first fault: of its JSON form, or of what it says. Places
+-- count over all bytes.
 abbrev pub IsTextFaultAt : {A : Type 0} → (List ℕ → Result A TextFault → Type 0) → List ℕ → ℕ
     → TextFault → Type 0
 IsTextFaultAt Says bytes at fault =
@@ -45,7 +47,8 @@ abbrev pub made_after : ℕ → List Event → ℕ
 made_after made [] = made
 made_after made (event ∷ events) = made_after (made + messages_of event) events
 
--- These events stand at the front, one after the other, where so many messages were made before; the rest follows them.
+-- These events stand at the front, one after the other, where so many messages were made before;
+-- the rest follows them.
 abbrev pub EventsLead : ℕ → ℕ → List ℕ → List Event → List ℕ → Type 0
 EventsLead replicas made bytes [] rest = bytes ≡ rest
 EventsLead replicas made bytes (event ∷ events) rest =
@@ -66,8 +69,8 @@ pub record IsSessionOf (bytes : List ℕ) (session : Session) : Type 0 where
   pub lead : LeadTo bytes (header session.replicas session.seed session.scene) session.events end
   pub space : is_blank (drop end bytes) ≡ true
 
--- The text of an event has the first fault: behind the header and events more than white space is left. Texts are
--- counted from 1.
+-- The text of an event has the first fault: behind the header and events more than white space is
+-- left. Texts are counted from 1.
 pub record HasFaultyEvent (bytes : List ℕ) (number : ℕ) (fault : TextFault) : Type 0 where
   pub head : Header
   pub events : List Event

@@ -12,7 +12,8 @@ use Rattle.session_text.specs.declared.session.Session.{Session}
 abbrev pub with_event : Session → Event → Session
 with_event session event = record session { events = session.events ++ event ∷ [] }
 
--- The text is that of the header, or of the next event; before it this is the session so far, and with it that one.
+-- The text is that of the header, or of the next event; before it this is the session so far, and
+-- with it that one.
 abbrev pub TakesText : Option Session → List ℕ → Option Session → Type 0
 TakesText None text None = ⊥
 TakesText None text (Some session) =
@@ -43,10 +44,16 @@ texts_in (Some session) = length session.events + 1
 abbrev pub session_so_far : Option Header → List Event → Option Session
 session_so_far None events = None
 session_so_far (Some head) events =
-    Some (record { replicas = head.replicas; seed = head.seed; scene = head.scene; events = events })
+    Some (record {
+      replicas = head.replicas;
+      seed = head.seed;
+      scene = head.scene;
+      events =
+          events;
+    })
 
--- What is kept of a session so far: it is one, and so many messages were made by its events. Before the header there is
--- none.
+-- What is kept of a session so far: it is one, and so many messages were made by its events. Before
+-- the header there is none.
 pub record IsFeed (head : Option Header) (events : List Event) (made : ℕ) : Type 0 where
   pub kept : IfSome (session_so_far head events) IsSession
   pub counted : made ≡ made_after 0 events

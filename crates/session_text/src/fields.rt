@@ -36,7 +36,8 @@ pub(crate) fn whole(members: &List<Member>, name: MemberName) -> Result<u64, Sto
     }
 }
 
-/// The member of this name, a whole number from the least one on, below the limit. It takes no memory.
+/// The member of this name, a whole number from the least one on, below the limit. It takes no
+/// memory.
 pub(crate) fn number_from(
     members: &List<Member>,
     name: MemberName,

@@ -33,7 +33,8 @@ pub fn sessions_keep_limits()
     ensures { (bytes : List ℕ) (session : Session) → IsSessionOf bytes session → IsSession session }
 {}
 
-/// A compact text is one opening and one line at most, and as each it has one first fault at most, and not both.
+/// A compact text is one opening and one line at most, and as each it has one first fault at most,
+/// and not both.
 pub fn line_reading_is_unique()
     ensures opening { (text : List ℕ) (answer other : Result Opening TextFault)
         → IsCompact 128 text → OpeningText text answer → OpeningText text other → answer ≡ other }

@@ -1,4 +1,5 @@
-//! Recorded sessions: each is read from its texts, or has one first fault. So are the lines of a living replica.
+//! Recorded sessions: each is read from its texts, or has one first fault. So are the lines of a
+//! living replica.
 #![tactic(auto)]
 
 mod command;

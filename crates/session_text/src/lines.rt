@@ -136,20 +136,24 @@ pub(crate) enum LineName {
     Pending,
 }
 
-/// The opening that a text is. A text with a fault is refused for its first one, in the order of its members.
+/// The opening that a text is. A text with a fault is refused for its first one, in the order of
+/// its members.
 pub fn read_opening(alloc: Global, value: &Raw) -> Result<Opening, Stop<TextFault>>
     ensures read { IfOk result (λ opening. OpeningText value.now (Ok opening)) }
-    ensures fault { (fault : TextFault) → result ≡ Err (Stop.Fault fault) → OpeningText value.now (Err fault) }
+    ensures fault { (fault : TextFault) → result ≡ Err (Stop.Fault fault)
+        → OpeningText value.now (Err fault) }
     ensures json { (fault : JsonFault) → result ≢ Err (Stop.Fault (TextFault.Json fault)) }
     ensures kept { IfOk result IsReplicaOpening }
 {
     opening_in(alloc, value)
 }
 
-/// The line that a text is. A text with a fault is refused for its first one, in the order of its members.
+/// The line that a text is. A text with a fault is refused for its first one, in the order of its
+/// members.
 pub fn read_line(alloc: Global, value: &Raw) -> Result<Line, Stop<TextFault>>
     ensures read { IfOk result (λ line. LineText value.now (Ok line)) }
-    ensures fault { (fault : TextFault) → result ≡ Err (Stop.Fault fault) → LineText value.now (Err fault) }
+    ensures fault { (fault : TextFault) → result ≡ Err (Stop.Fault fault)
+        → LineText value.now (Err fault) }
     ensures json { (fault : JsonFault) → result ≢ Err (Stop.Fault (TextFault.Json fault)) }
     ensures within { IfOk result IsLineWithinLimits }
     ensures brings { IfOk result LineBringsElements }

@@ -15,8 +15,8 @@ use json_reader::scan;
 use json_text::skip_space;
 use std::alloc::Global;
 
-/// The session that the bytes are, or their first fault: of texts with faults the first counts, and of the faults of a
-/// text the first in the order of its members.
+/// The session that the bytes are, or their first fault: of texts with faults the first counts, and
+/// of the faults of a text the first in the order of its members.
 pub fn read_session(alloc: Global, bytes: &[u8]) -> Result<Session, Stop<SessionFault>>
     ensures session { IfOk result (IsSessionOf bytes.now) }
     ensures fault { (fault : SessionFault) → result ≡ Err (Stop.Fault fault)

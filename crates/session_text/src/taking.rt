@@ -23,8 +23,8 @@ use std::marker::Model;
 /// The greatest number of events.
 const MOST_EVENTS: usize = 250_000;
 
-/// A session whose texts come one after the other: that of the header, and then those of the events. Contracts see the
-/// session so far, or nothing before the header.
+/// A session whose texts come one after the other: that of the header, and then those of the
+/// events. Contracts see the session so far, or nothing before the header.
 ///
 /// What a text costs doesn't depend on how many came before it.
 #[derive(Drop)]
@@ -58,8 +58,9 @@ impl SessionFeed {
         }
     }
 
-    /// Takes the next text: the header's, or that of the next event. A text with a fault is refused for its first one,
-    /// in the order of its members. What was taken stays then, and for want of memory.
+    /// Takes the next text: the header's, or that of the next event. A text with a fault is refused
+    /// for its first one, in the order of its members. What was taken stays then, and for want of
+    /// memory.
     pub fn take(&mut self, alloc: Global, text: &Raw) -> Result<(), Stop<TextFault>>
         requires { taken.is_full self.old ≡ false }
         ensures taken { OnOk result (TakesText self.old text.now self.new) }

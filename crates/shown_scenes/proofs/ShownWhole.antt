@@ -27,17 +27,21 @@ use Rattle.scene_file.proofs.CallerLemmas.{stays-if, IsListed, sound-with, AreSo
 
 placed-sound : (live : List ElementValue) → AreSound live → AreSound (placed live)
 unfolding placed
-placed-sound live sound = repaired-sound (in_scene_order live) (All-permutation IsSound live (in_scene_order live) (IsPermutation-in_scene_order live) sound)
+placed-sound live sound = repaired-sound (in_scene_order live)
+    (All-permutation IsSound live (in_scene_order live) (IsPermutation-in_scene_order live) sound)
 
 -- ---- settled links
-map-all : {X Y : Type 0} (P : X → Type 0) (Q : Y → Type 0) (f : X → Y) (xs : List X) → ((x : X) → P x → Q (f x)) → All P xs → All Q (map f xs)
+map-all : {X Y : Type 0} (P : X → Type 0) (Q : Y → Type 0) (f : X → Y) (xs : List X) → ((x : X) → P x → Q (f x))
+    → All P xs → All Q (map f xs)
 map-all P Q f xs each all = All-map Q f xs (All-weaker P (λ x. Q (f x)) each xs all)
 
 find-all : {X : Type 0} (P : X → Type 0) (test : X → Bool) (xs : List X) → All P xs → IfSome (find test xs) P
 find-all P test [] all = tt
-find-all P test (x ∷ xs) all = cond_both (test x) (Some x) (find test xs) (λ o. IfSome o P) (λ _. All-head P x xs all) (λ _. find-all P test xs (All-tail P x xs all))
+find-all P test (x ∷ xs) all = cond_both (test x) (Some x) (find test xs) (λ o. IfSome o P) (λ _. All-head P x xs all)
+    (λ _. find-all P test xs (All-tail P x xs all))
 
-map-holds : {X Y : Type 0} (P : X → Type 0) (Q : Y → Type 0) (f : X → Y) (o : Option X) → ((x : X) → P x → Q (f x)) → IfSome o P → IfSome (option_map f o) Q
+map-holds : {X Y : Type 0} (P : X → Type 0) (Q : Y → Type 0) (f : X → Y) (o : Option X) → ((x : X) → P x → Q (f x))
+    → IfSome o P → IfSome (option_map f o) Q
 map-holds P Q f None each is = tt
 map-holds P Q f (Some x) each is = each x is
 
@@ -52,24 +56,30 @@ first-listed : (entries : List BoundRef) → AreListed entries → AreListed (fi
 first-listed [] all = all
 first-listed (entry ∷ entries) all =
     let rest = first_entries entries in
-    All-cons IsListed entry (filter (λ other. not (same_listing_entry entry other)) rest) (All-head IsListed entry entries all)
-    (All-filter (λ other. not (same_listing_entry entry other)) IsListed rest (first-listed entries (All-tail IsListed entry entries all)))
+    All-cons IsListed entry (filter (λ other. not (same_listing_entry entry other)) rest)
+    (All-head IsListed entry entries all)
+    (All-filter (λ other. not (same_listing_entry entry other)) IsListed rest
+    (first-listed entries (All-tail IsListed entry entries all)))
 
-text-written : (list : List ElementValue) (e : ElementValue) → AreSound list → IsSound e → IfSome (text_of list e) IsUtf8
+text-written : (list : List ElementValue) (e : ElementValue) → AreSound list → IsSound e
+    → IfSome (text_of list e) IsUtf8
 unfolding text_of
 text-written list e sounds sound =
     cond_both (can_hold_text e.kind) (option_or (listed_text list e) (first_text list e)) None (λ o. IfSome o IsUtf8)
     (λ _. or-holds IsUtf8 (listed_text list e) (first_text list e)
     (map-holds IsListed IsUtf8 (λ (entry : BoundRef). entry.id) (find (is_text_entry list e) e.bound) (λ entry is. is)
     (find-all IsListed (is_text_entry list e) e.bound (All-from_recursion IsListed e.bound sound.written.bound)))
-    (map-holds IsSound IsUtf8 id_of (find (names_container e.id) list) (λ (text : ElementValue) (is : IsSound text). is.written.id) (find-all IsSound (names_container e.id) list sounds)))
+    (map-holds IsSound IsUtf8 id_of (find (names_container e.id) list)
+    (λ (text : ElementValue) (is : IsSound text). is.written.id)
+    (find-all IsSound (names_container e.id) list sounds)))
     (λ _. tt)
 
 text-listed : (text : Option (List ℕ)) → IfSome text IsUtf8 → AreListed (text_entries text)
 text-listed None is = All-nil IsListed
 text-listed (Some id) is = All-cons IsListed (text_entry id) [] is (All-nil IsListed)
 
-listing-written : (list : List ElementValue) (e : ElementValue) → AreSound list → IsSound e → AllByRecursion IsListed (listing list e)
+listing-written : (list : List ElementValue) (e : ElementValue) → AreSound list → IsSound e
+    → AllByRecursion IsListed (listing list e)
 unfolding listing
 listing-written list e sounds sound =
     let own = filter (is_true_entry list e) e.bound in
@@ -77,9 +87,11 @@ listing-written list e sounds sound =
     let texts = text_entries (text_of list e) in
     recursion_from_All IsListed (first_entries (own ++ (entries ++ texts)))
     (first-listed (own ++ (entries ++ texts))
-    (All-append IsListed own (entries ++ texts) (All-filter (is_true_entry list e) IsListed e.bound (All-from_recursion IsListed e.bound sound.written.bound))
+    (All-append IsListed own (entries ++ texts)
+    (All-filter (is_true_entry list e) IsListed e.bound (All-from_recursion IsListed e.bound sound.written.bound))
     (All-append IsListed entries texts
-    (map-all IsSound IsListed (λ (arrow : ElementValue). arrow_entry arrow.id) (filter (arrows.is_bound_to e) list) (λ (arrow : ElementValue) (is : IsSound arrow). is.written.id)
+    (map-all IsSound IsListed (λ (arrow : ElementValue). arrow_entry arrow.id) (filter (arrows.is_bound_to e) list)
+    (λ (arrow : ElementValue) (is : IsSound arrow). is.written.id)
     (All-filter (arrows.is_bound_to e) IsSound list sounds))
     (text-listed (text_of list e) (text-written list e sounds sound)))))
 
@@ -88,17 +100,22 @@ texts-sound list sounds = map-all IsSound IsSound (with_settled_container list) 
   where
     each : (e : ElementValue) → IsSound e → IsSound (with_settled_container list e)
     each e sound =
-        sound-with e e.index e.groups e.frame e.bound (cond (keeps_container list e) e.container None) e.start_binding e.end_binding
-        sound sound.written.index sound.written.groups sound.written.frame sound.written.bound (stays-if (keeps_container list e) e.container) (inl refl) (inl refl)
+        sound-with e e.index e.groups e.frame e.bound (cond (keeps_container list e) e.container None) e.start_binding
+        e.end_binding
+        sound sound.written.index sound.written.groups sound.written.frame sound.written.bound
+        (stays-if (keeps_container list e) e.container) (inl refl) (inl refl)
 
 arrows-sound : (list : List ElementValue) → AreSound list → AreSound (settled_arrows list)
 arrows-sound list sounds = map-all IsSound IsSound (with_settled_links list) list each sounds
   where
     each : (e : ElementValue) → IsSound e → IsSound (with_settled_links list e)
     each e sound =
-        sound-with e e.index e.groups e.frame (listing list e) e.container (arrows.settled_end list e.start_binding) (arrows.settled_end list e.end_binding)
-        sound sound.written.index sound.written.groups sound.written.frame (listing-written list e sounds sound) (inl refl)
-        (stays-if (names_target list (target_of e.start_binding)) e.start_binding) (stays-if (names_target list (target_of e.end_binding)) e.end_binding)
+        sound-with e e.index e.groups e.frame (listing list e) e.container (arrows.settled_end list e.start_binding)
+        (arrows.settled_end list e.end_binding)
+        sound sound.written.index sound.written.groups sound.written.frame (listing-written list e sounds sound)
+        (inl refl)
+        (stays-if (names_target list (target_of e.start_binding)) e.start_binding)
+        (stays-if (names_target list (target_of e.end_binding)) e.end_binding)
 
 -- ---- settled frames and groups
 frames-sound : (list : List ElementValue) → AreSound list → AreSound (frames_settled list)
@@ -107,7 +124,8 @@ frames-sound list sounds = map-all IsSound IsSound (framed (has_frame list)) lis
     each : (e : ElementValue) → IsSound e → IsSound (framed (has_frame list) e)
     each e sound =
         cond_both (keeps_frame (has_frame list) e) e (without_frame e) IsSound (λ _. sound)
-        (λ _. sound-with e e.index e.groups None e.bound e.container e.start_binding e.end_binding sound sound.written.index sound.written.groups tt sound.written.bound (inl refl) (inl refl) (inl refl))
+        (λ _. sound-with e e.index e.groups None e.bound e.container e.start_binding e.end_binding sound
+        sound.written.index sound.written.groups tt sound.written.bound (inl refl) (inl refl) (inl refl))
 
 first-texts : (groups : List (List ℕ)) → All IsUtf8 groups → All IsUtf8 (texts.first_texts groups)
 first-texts [] all = all
@@ -123,14 +141,17 @@ groups-sound list sounds = map-all IsSound IsSound grouped list each sounds
     each e sound =
         let groups = texts.first_texts e.groups in
         sound-with e e.index groups e.frame e.bound e.container e.start_binding e.end_binding sound sound.written.index
-        (recursion_from_All IsUtf8 groups (first-texts e.groups (All-from_recursion IsUtf8 e.groups sound.written.groups))) sound.written.frame sound.written.bound
+        (recursion_from_All IsUtf8 groups (first-texts e.groups
+        (All-from_recursion IsUtf8 e.groups sound.written.groups))) sound.written.frame sound.written.bound
         (inl refl) (inl refl) (inl refl)
 
 pub shown-sound : (live : List ElementValue) → AreSound live → AreSound (shown live)
 unfolding shown settled
 shown-sound live sounds =
     let there = placed live in
-    groups-sound (frames_settled (settled_links there)) (frames-sound (settled_links there) (arrows-sound (settled_texts there) (texts-sound there (placed-sound live sounds))))
+    groups-sound (frames_settled (settled_links there))
+    (frames-sound (settled_links there)
+    (arrows-sound (settled_texts there) (texts-sound there (placed-sound live sounds))))
 
 pub shown-whole : (live : List ElementValue) → All IsWholeElement live → All IsWholeElement (shown live)
 shown-whole live whole = sounds-whole (shown live) (shown-sound live (wholes-sound live whole))

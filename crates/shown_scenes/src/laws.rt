@@ -11,7 +11,8 @@ ghost use Rattle.scene_file.specs.Reading.{IsSceneOf};
 ghost use Rattle.scene_file.specs.Scenes.{scene_text};
 ghost use Rattle.scene_file.specs.declared.scene.Scene.{Scene};
 
-/// The text of what is shown of scenes is a compact text, which nests at most 128; so it is written in each layout.
+/// The text of what is shown of scenes is a compact text, which nests at most 128; so it is written
+/// in each layout.
 pub fn shown_scene_is_written()
     ensures { (scenes : List Scene) (head : Heading) (stored : List ElementValue)
         → All (λ scene. (text : List ℕ) × IsSceneOf text scene) scenes

@@ -10,8 +10,8 @@ use scene_file::{Head, Layout, elements_text};
 use std::alloc::{AllocError, Global};
 use view::View;
 
-/// The text of the scene of what a view shows, under this head, in this layout; no line feed ends it. Fails only for
-/// want of memory.
+/// The text of the scene of what a view shows, under this head, in this layout; no line feed ends
+/// it. Fails only for want of memory.
 pub fn scene_text(
     alloc: Global,
     head: &Head,

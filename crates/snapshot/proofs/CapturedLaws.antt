@@ -35,14 +35,21 @@ order_of id e = slice_cmp nat_cmp e.id id
 
 module _ (elements : List ElementValue) (rising : are_rising (ids_of elements) ≡ true) where
   -- a search by id ends at the id, or at the gap for it
-  pub searched : (id : List ℕ) (r : Result ℕ ℕ) → IsSearchInRange r (length elements) → IsBinarySearchResult (order_of id) elements r → IfOk r (IsAt elements id) × IfErr r (IsGapFor elements id)
+  pub searched : (id : List ℕ) (r : Result ℕ ℕ) → IsSearchInRange r (length elements)
+      → IsBinarySearchResult (order_of id) elements r → IfOk r (IsAt elements id) × IfErr r (IsGapFor elements id)
   searched id (Ok i) in_range equal =
-      let x = some_within elements i in_range in
-      (rw x.1 (exact_bytes x.0.id id (ap (order_of id) (sym (get_or_from_slice_get elements i x.0 x.0 x.1)) ∙ equal x.0)), tt)
+      let x = some_within elements i in_range in (
+        rw x.1 (exact_bytes x.0.id id (ap (order_of id) (sym (get_or_from_slice_get elements i x.0 x.0 x.1))
+            ∙ equal x.0)),
+        tt,
+      )
   searched id (Err i) in_range parted =
-      let sorted = λ (k : ℕ) (d : ElementValue) (low : 0 ≤ k) (m : k + 1 < length elements). false_from_ne_true (bytes_less (get_or elements (k + 1) d).id (get_or elements k d).id)
-      (less-less (get_or elements k d).id (get_or elements (k + 1) d).id (earlier_less None None elements k (k + 1) d rising (omega arith) m)) in
-      let parts = parted (searchable_from_sorted nat_list_cmp_total (λ (e : ElementValue). e.id) elements id sorted) in (
+      let sorted = λ (k : ℕ) (d : ElementValue) (low : 0 ≤ k) (m : k + 1 < length elements). false_from_ne_true
+      (bytes_less (get_or elements (k + 1) d).id (get_or elements k d).id)
+      (less-less (get_or elements k d).id (get_or elements (k + 1) d).id
+      (earlier_less None None elements k (k + 1) d rising (omega arith) m)) in
+      let parts =
+      parted (searchable_from_sorted nat_list_cmp_total (λ (e : ElementValue). e.id) elements id sorted) in (
         tt,
         record {
           in_range = in_range;
@@ -51,7 +58,8 @@ module _ (elements : List ElementValue) (rising : are_rising (ids_of elements) �
               rw (get_or-take i elements k d m) (ap is_lt (parts.0 k d (omega arith) m));
           greater_after = λ k d l.
               let m : i + k < length elements = omega (arith, length-drop i elements) in
-              rw (get_or-drop i elements k d) (greater (get_or elements (i + k) d).id id (parts.1 (i + k) d (omega arith) m));
+              rw (get_or-drop i elements k d) (greater (get_or elements (i + k) d).id id
+              (parts.1 (i + k) d (omega arith) m));
         },
       )
     where
@@ -59,7 +67,8 @@ module _ (elements : List ElementValue) (rising : are_rising (ids_of elements) �
       greater a b h = ap is_lt (nat_list_cmp_total.antisymm b a ∙ ap ordering_reverse h)
 
   -- the element in the place of the one of its id
-  pub HasPut-set : (e : ElementValue) (i : ℕ) (x : ElementValue) → slice_get elements i ≡ Some x → x.id ≡ e.id → HasPut elements e (set elements i e)
+  pub HasPut-set : (e : ElementValue) (i : ℕ) (x : ElementValue) → slice_get elements i ≡ Some x → x.id ≡ e.id
+      → HasPut elements e (set elements i e)
   HasPut-set e i x at same = record { ordered = ordered; each = each }
     where
       within : i < length elements
@@ -71,9 +80,14 @@ module _ (elements : List ElementValue) (rising : are_rising (ids_of elements) �
       each : (id : List ℕ) → element_of (set elements i e) id ≡ cond (has_id id e) (Some e) (element_of elements id)
       each id = elim (cases_Bool (has_id id e)) [
         | inl t ↦ ap (element_of (set elements i e)) (same_id id e t)
-            ∙ member None None (set elements i e) e ordered (i, rw (length-set elements i e) within, get_or-set_same elements i e e within)
+            ∙ member None None (set elements i e) e ordered (
+              i,
+              rw (length-set elements i e) within,
+              get_or-set_same elements i e e within,
+            )
             ∙ sym (cond-true (has_id id e) (Some e) (element_of elements id) t)
-        | inr f ↦ find_past (has_id id) elements i e e (ap (has_id id) (get_or_from_slice_get elements i x e at) ∙ ap (bytes_eq id) same ∙ f) f
+        | inr f ↦ find_past (has_id id) elements i e e (ap (has_id id) (get_or_from_slice_get elements i x e at)
+            ∙ ap (bytes_eq id) same ∙ f) f
             ∙ sym (cond-false (has_id id e) (Some e) (element_of elements id) f)
       ]
 
@@ -83,7 +97,8 @@ module _ (elements : List ElementValue) (rising : are_rising (ids_of elements) �
       let taken = HasTaken-insert elements e i rising gap in
       record {
         ordered = taken.ordered;
-        each = λ id. taken.each id ∙ ap (λ b. cond (has_id id e && b) (Some e) (element_of elements id)) (is_taken-gap elements e i gap) ∙ own (has_id id e) (element_of elements id);
+        each = λ id. taken.each id ∙ ap (λ b. cond (has_id id e && b) (Some e) (element_of elements id))
+            (is_taken-gap elements e i gap) ∙ own (has_id id e) (element_of elements id);
       }
     where
       own : (b : Bool) (o : Option ElementValue) → cond (b && true) (Some e) o ≡ cond b (Some e) o
@@ -91,23 +106,31 @@ module _ (elements : List ElementValue) (rising : are_rising (ids_of elements) �
       own false o = refl
 
 -- an element that was put is carried
-pub HasCarried-put : (before : List ElementValue) (old : Option ElementValue) (new e : ElementValue) (after : List ElementValue) → HasPut before e after → e.id ≡ new.id → IsCarried (element_of before new.id) old new (Some e) → HasCarried before old new after
+pub HasCarried-put : (before : List ElementValue) (old : Option ElementValue) (new e : ElementValue)
+    (after : List ElementValue) → HasPut before e after → e.id ≡ new.id
+    → IsCarried (element_of before new.id) old new (Some e) → HasCarried before old new after
 HasCarried-put before old new e after put id carried = record {
   ordered = put.ordered;
-  own = subst (IsCarried (element_of before new.id) old new) (sym (put.each new.id ∙ cond-true (has_id new.id e) (Some e) (element_of before new.id) (of_same new.id e (sym id)))) carried;
-  others = λ other f. put.each other ∙ cond-false (has_id other e) (Some e) (element_of before other) (ap (bytes_eq other) id ∙ f);
+  own = subst (IsCarried (element_of before new.id) old new)
+      (sym (put.each new.id ∙ cond-true (has_id new.id e) (Some e) (element_of before new.id)
+      (of_same new.id e (sym id)))) carried;
+  others = λ other f. put.each other ∙ cond-false (has_id other e) (Some e) (element_of before other)
+      (ap (bytes_eq other) id ∙ f);
 }
 
 -- an element that is found has the id
-pub found-id : (elements : List ElementValue) (id : List ℕ) (o : Option ElementValue) → o ≡ element_of elements id → IfSome o (λ old. old.id ≡ id)
+pub found-id : (elements : List ElementValue) (id : List ℕ) (o : Option ElementValue) → o ≡ element_of elements id
+    → IfSome o (λ old. old.id ≡ id)
 found-id elements id None h = tt
 found-id elements id (Some e) h = sym (same_id id e (find-Some (has_id id) elements e (sym h)).1)
 
 -- a captured element is led as the stored one was
-pub IsCarried-led : (old new captured e : ElementValue) (part : Delta) → old.kind ≡ new.kind → IsElement e → PartStandsFor part old new → IsApplied part captured e → IsCarried (Some captured) (Some old) new (Some e)
+pub IsCarried-led : (old new captured e : ElementValue) (part : Delta) → old.kind ≡ new.kind → IsElement e
+    → PartStandsFor part old new → IsApplied part captured e → IsCarried (Some captured) (Some old) new (Some e)
 IsCarried-led old new captured e part kind is stands applied = record {
   created = λ none. absurd (none-some old (sym none));
-  other_kind = λ stored same other. absurd (other (ap (λ (x : ElementValue). x.kind) (sym (same_Some old stored same)) ∙ kind));
+  other_kind =
+      λ stored same other. absurd (other (ap (λ (x : ElementValue). x.kind) (sym (same_Some old stored same)) ∙ kind));
   absent = λ stored same kinds none. absurd (none-some captured (sym none));
   changed = λ stored x same kinds some. (
     e,
@@ -127,7 +150,8 @@ IsCarried-led old new captured e part kind is stands applied = record {
 pub IsCarried-absent : (old new : ElementValue) → old.kind ≡ new.kind → IsCarried None (Some old) new None
 IsCarried-absent old new kind = record {
   created = λ e. absurd (none-some old (sym e));
-  other_kind = λ stored e other. absurd (other (ap (λ (x : ElementValue). x.kind) (sym (same_Some old stored e)) ∙ kind));
+  other_kind =
+      λ stored e other. absurd (other (ap (λ (x : ElementValue). x.kind) (sym (same_Some old stored e)) ∙ kind));
   absent = λ stored e same captured. refl;
   changed = λ stored x e same captured. absurd (none-some x captured);
 }
@@ -135,34 +159,45 @@ IsCarried-absent old new kind = record {
 -- what is made has the id
 undone-id : (pair : Pair) (now : ElementValue) → (undone pair now).id ≡ now.id
 unfolding undone
-undone-id pair now = elim (same_kind pair.after.kind now.kind) as (λ b. (if b then undone_in pair now else now).id ≡ now.id) [ true ↦ refl | false ↦ refl ]
+undone-id pair now = elim (same_kind pair.after.kind now.kind) as (λ b. (if b then undone_in pair now else now).id
+    ≡ now.id) [ true ↦ refl | false ↦ refl ]
 
-pub made-id : (captured old : Option ElementValue) (new e : ElementValue) → IfSome captured (λ h. h.id ≡ new.id) → Some e ≡ carried_to captured old new → e.id ≡ new.id
+pub made-id : (captured old : Option ElementValue) (new e : ElementValue) → IfSome captured (λ h. h.id ≡ new.id)
+    → Some e ≡ carried_to captured old new → e.id ≡ new.id
 made-id captured None new e id h = ap (λ (x : ElementValue). x.id) (same_Some e new h)
 made-id captured (Some old) new e id h = made (same_kind old.kind new.kind) captured id h
   where
-    made : (b : Bool) (captured : Option ElementValue) → IfSome captured (λ h. h.id ≡ new.id) → Some e ≡ cond b (option_map (undone (record { before = new; after = old })) captured) (Some new) → e.id ≡ new.id
+    made : (b : Bool) (captured : Option ElementValue) → IfSome captured (λ h. h.id ≡ new.id)
+        → Some e ≡ cond b (option_map (undone (record { before = new; after = old })) captured) (Some new)
+        → e.id ≡ new.id
     made false captured id h = ap (λ (x : ElementValue). x.id) (same_Some e new h)
     made true None id h = absurd (none-some e (sym h))
-    made true (Some captured) id h = ap (λ (x : ElementValue). x.id) (same_Some e (undone (record { before = new; after = old }) captured) h) ∙ undone-id (record { before = new; after = old }) captured ∙ id
+    made true (Some captured) id h = ap (λ (x : ElementValue). x.id)
+        (same_Some e (undone (record { before = new; after = old }) captured) h)
+        ∙ undone-id (record { before = new; after = old }) captured ∙ id
 
 -- nothing is made of nothing alone
-pub none-made : (captured old : Option ElementValue) (new : ElementValue) → None ≡ carried_to captured old new → captured ≡ None
+pub none-made : (captured old : Option ElementValue) (new : ElementValue) → None ≡ carried_to captured old new
+    → captured ≡ None
 none-made captured None new h = absurd (none-some new h)
 none-made captured (Some old) new h = made (same_kind old.kind new.kind) captured h
   where
-    made : (b : Bool) (captured : Option ElementValue) → None ≡ cond b (option_map (undone (record { before = new; after = old })) captured) (Some new) → captured ≡ None
+    made : (b : Bool) (captured : Option ElementValue) → None
+        ≡ cond b (option_map (undone (record { before = new; after = old })) captured) (Some new) → captured ≡ None
     made false captured h = absurd (none-some new h)
     made true None h = refl
     made true (Some captured) h = absurd (none-some (undone (record { before = new; after = old }) captured) h)
 
 -- elements with what a change made are carried
-pub HasCarried-made : (before : List ElementValue) (old : Option ElementValue) (new : ElementValue) (made : Option ElementValue) → are_rising (ids_of before) ≡ true → IsCarried (element_of before new.id) old new made → made ≡ carried_to (element_of before new.id) old new → HasCarried before old new (with_made made before)
+pub HasCarried-made : (before : List ElementValue) (old : Option ElementValue) (new : ElementValue)
+    (made : Option ElementValue) → are_rising (ids_of before) ≡ true → IsCarried (element_of before new.id) old new made
+    → made ≡ carried_to (element_of before new.id) old new → HasCarried before old new (with_made made before)
 HasCarried-made before old new (Some e) rising carried to =
     HasCarried-put before old new e (with_put e before) (HasPut-put before e rising)
     (made-id (element_of before new.id) old new e (found-id before new.id (element_of before new.id) refl) to) carried
 HasCarried-made before old new None rising carried to = record {
   ordered = rising;
-  own = subst (IsCarried (element_of before new.id) old new) (sym (none-made (element_of before new.id) old new to)) carried;
+  own = subst (IsCarried (element_of before new.id) old new) (sym (none-made (element_of before new.id) old new to))
+      carried;
   others = λ id f. refl;
 }

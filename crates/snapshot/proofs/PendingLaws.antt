@@ -19,19 +19,22 @@ module _ (snapshot store : List ElementValue) (i : ℕ) (e : ElementValue) (at :
   within = slice_get_within store i e at
 
   -- those with the next one
-  pub pairs-more : pairs_since snapshot (take i store) ++ pair_with (element_of snapshot e.id) e ∷ [] ≡ pairs_since snapshot (take (i + 1) store)
+  pub pairs-more : pairs_since snapshot (take i store) ++ pair_with (element_of snapshot e.id) e ∷ []
+      ≡ pairs_since snapshot (take (i + 1) store)
   pairs-more =
       let pair = λ (x : ElementValue). pair_with (element_of snapshot x.id) x in
       sym (map-append pair (take i store) (e ∷ []))
       ∙ ap (map pair) (sym (take_more store i e within ∙ ap (λ x. take i store ++ x ∷ []) here))
 
   -- have lesser ids than that
-  pub pairs-less : are_rising (ids_of store) ≡ true → (other : Pair) → Contains (pairs_since snapshot (take i store)) other → bytes_less other.after.id e.id ≡ true
+  pub pairs-less : are_rising (ids_of store) ≡ true → (other : Pair)
+      → Contains (pairs_since snapshot (take i store)) other → bytes_less other.after.id e.id ≡ true
   pairs-less rising other c =
       let own = Contains-map (λ (x : ElementValue). pair_with (element_of snapshot x.id) x) (take i store) other c in
       let low : own.1.0 < i = omega (arith, own.1.1, length-take i store) in
       subst₂ (λ a b. bytes_less a b ≡ true)
-      (ap (λ (x : ElementValue). x.id) (sym (get_or-take i store own.1.0 own.0 low) ∙ own.1.2) ∙ ap (λ (p : Pair). p.after.id) own.2)
+      (ap (λ (x : ElementValue). x.id) (sym (get_or-take i store own.1.0 own.0 low) ∙ own.1.2)
+      ∙ ap (λ (p : Pair). p.after.id) own.2)
       (ap (λ (x : ElementValue). x.id) (get_or_from_slice_get store i e own.0 at))
       (earlier_less None None store own.1.0 i own.0 rising low within)
 

@@ -31,7 +31,8 @@ neither true c h = absurd (false≢true (sym h))
 neither false c h = (refl, h)
 
 pub touched-id : (old : List (List ℕ)) (id : List ℕ) (new : List (List ℕ))
-    → ((q : List ℕ) → list_any (is_at (slice_cmp nat_cmp q)) new ≡ cond (is_at (slice_cmp nat_cmp id) q) true (list_any (is_at (slice_cmp nat_cmp q)) old))
+    → ((q : List ℕ) → list_any (is_at (slice_cmp nat_cmp q)) new
+    ≡ cond (is_at (slice_cmp nat_cmp id) q) true (list_any (is_at (slice_cmp nat_cmp q)) old))
     → IsTouched old id new
 touched-id old id new updates = record {
   still = λ q f. (both q f).1;
@@ -45,30 +46,35 @@ touched-id old id new updates = record {
     both : (q : List ℕ) → is_among new q ≡ false → (bytes_eq q id ≡ false) × (is_among old q ≡ false)
     both q f =
         neither (bytes_eq q id) (is_among old q)
-        (ap (cond (bytes_eq q id) true) (sym (among-ordered q old)) ∙ ap (λ own. cond own true (list_any (is_at (slice_cmp nat_cmp q)) old)) (sym (of-ordered id q))
+        (ap (cond (bytes_eq q id) true) (sym (among-ordered q old))
+        ∙ ap (λ own. cond own true (list_any (is_at (slice_cmp nat_cmp q)) old)) (sym (of-ordered id q))
         ∙ sym (updates q) ∙ among-ordered q new ∙ f)
 
 -- ---- those of a list
-none-tail : (x : ElementValue) (xs : List ElementValue) (id : List ℕ) → element_of (x ∷ xs) id ≡ None → (has_id id x ≡ false) × (element_of xs id ≡ None)
+none-tail : (x : ElementValue) (xs : List ElementValue) (id : List ℕ) → element_of (x ∷ xs) id ≡ None
+    → (has_id id x ≡ false) × (element_of xs id ≡ None)
 none-tail x xs id n = elim (cases_Bool (has_id id x)) [
   | inl t ↦ absurd (none-some x (sym n ∙ cond-true (has_id id x) (Some x) (element_of xs id) t))
   | inr f ↦ (f, sym (cond-false (has_id id x) (Some x) (element_of xs id) f) ∙ n)
 ]
 
-none-push : (xs : List ElementValue) (e : ElementValue) (id : List ℕ) → element_of xs id ≡ None → has_id id e ≡ false → element_of (xs ++ e ∷ []) id ≡ None
+none-push : (xs : List ElementValue) (e : ElementValue) (id : List ℕ) → element_of xs id ≡ None → has_id id e ≡ false
+    → element_of (xs ++ e ∷ []) id ≡ None
 none-push [] e id n f = cond-false (has_id id e) (Some e) None f
 none-push (x ∷ xs) e id n f =
     let h = none-tail x xs id n in
     cond-false (has_id id x) (Some x) (element_of (xs ++ e ∷ []) id) h.0 ∙ none-push xs e id h.1 f
 
-pub none-split : (xs : List ElementValue) (e : ElementValue) (id : List ℕ) → element_of (xs ++ e ∷ []) id ≡ None → (element_of xs id ≡ None) × (has_id id e ≡ false)
+pub none-split : (xs : List ElementValue) (e : ElementValue) (id : List ℕ) → element_of (xs ++ e ∷ []) id ≡ None
+    → (element_of xs id ≡ None) × (has_id id e ≡ false)
 none-split [] e id n = (refl, (none-tail e [] id n).0)
 none-split (x ∷ xs) e id n =
     let h = none-tail x (xs ++ e ∷ []) id n in
     let own = none-split xs e id h.1 in
     (cond-false (has_id id x) (Some x) (element_of xs id) h.0 ∙ own.0, own.1)
 
-pub none-take : (count : ℕ) (xs : List ElementValue) (id : List ℕ) → element_of xs id ≡ None → element_of (take count xs) id ≡ None
+pub none-take : (count : ℕ) (xs : List ElementValue) (id : List ℕ) → element_of xs id ≡ None
+    → element_of (take count xs) id ≡ None
 none-take zero xs id n = refl
 none-take (suc count) [] id n = refl
 none-take (suc count) (x ∷ xs) id n =
@@ -78,7 +84,8 @@ none-take (suc count) (x ∷ xs) id n =
 pub touched-none : (ids : List (List ℕ)) → HasTouched ids [] ids
 touched-none ids = record { still = λ id f. f; listed = λ id f. refl; only = λ id f n. f }
 
-pub touched-more : (old mid new : List (List ℕ)) (list : List ElementValue) (e : ElementValue) → HasTouched old list mid → IsTouched mid e.id new → HasTouched old (list ++ e ∷ []) new
+pub touched-more : (old mid new : List (List ℕ)) (list : List ElementValue) (e : ElementValue) → HasTouched old list mid
+    → IsTouched mid e.id new → HasTouched old (list ++ e ∷ []) new
 touched-more old mid new list e h t = record {
   still = λ id f. h.still id (t.still id f);
   listed = λ id f. none-push list e id (h.listed id (t.still id f)) (t.own id f);
@@ -86,82 +93,111 @@ touched-more old mid new list e h t = record {
 }
 
 -- ---- what was stored since
-taken-other : (e : ElementValue) (stored : List ElementValue) (id : List ℕ) → has_id id e ≡ false → element_of (taken e stored) id ≡ element_of stored id
+taken-other : (e : ElementValue) (stored : List ElementValue) (id : List ℕ) → has_id id e ≡ false
+    → element_of (taken e stored) id ≡ element_of stored id
 taken-other e stored id f =
     elim (is_taken stored e) as (λ b. element_of (cond b (with_put e stored) stored) id ≡ element_of stored id) [
       | true ↦ put-each e stored id ∙ cond-false (has_id id e) (Some e) (element_of stored id) f
       | false ↦ refl
     ]
 
-all-taken-other : (list stored : List ElementValue) (id : List ℕ) → element_of list id ≡ None → element_of (taken_all list stored) id ≡ element_of stored id
+all-taken-other : (list stored : List ElementValue) (id : List ℕ) → element_of list id ≡ None
+    → element_of (taken_all list stored) id ≡ element_of stored id
 all-taken-other [] stored id n = refl
 all-taken-other (e ∷ more) stored id n =
     let h = none-tail e more id n in
     all-taken-other more (taken e stored) id h.1 ∙ taken-other e stored id h.0
 
-made-other : (made : Option ElementValue) (e : ElementValue) (snapshot : List ElementValue) (id : List ℕ) → ((y : ElementValue) → Some y ≡ made → y.id ≡ e.id) → has_id id e ≡ false → element_of (with_made made snapshot) id ≡ element_of snapshot id
+made-other : (made : Option ElementValue) (e : ElementValue) (snapshot : List ElementValue) (id : List ℕ)
+    → ((y : ElementValue) → Some y ≡ made → y.id ≡ e.id) → has_id id e ≡ false
+    → element_of (with_made made snapshot) id ≡ element_of snapshot id
 made-other None e snapshot id ids f = refl
-made-other (Some y) e snapshot id ids f = put-each y snapshot id ∙ cond-false (has_id id y) (Some y) (element_of snapshot id) (ap (bytes_eq id) (ids y refl) ∙ f)
+made-other (Some y) e snapshot id ids f = put-each y snapshot id
+    ∙ cond-false (has_id id y) (Some y) (element_of snapshot id) (ap (bytes_eq id) (ids y refl) ∙ f)
 
-carried-other : (old : Option ElementValue) (e : ElementValue) (snapshot : List ElementValue) (id : List ℕ) → has_id id e ≡ false → element_of (carried_over old e snapshot) id ≡ element_of snapshot id
+carried-other : (old : Option ElementValue) (e : ElementValue) (snapshot : List ElementValue) (id : List ℕ)
+    → has_id id e ≡ false → element_of (carried_over old e snapshot) id ≡ element_of snapshot id
 carried-other old e snapshot id f =
     let captured = element_of snapshot e.id in
     ap (λ es. element_of es id) (carried_over-to old e snapshot)
-    ∙ made-other (carried_to captured old e) e snapshot id (λ y to. made-id captured old e y (found-id snapshot e.id captured refl) to) f
+    ∙ made-other (carried_to captured old e) e snapshot id
+    (λ y to. made-id captured old e y (found-id snapshot e.id captured refl) to) f
 
-all-carried-other : (list snapshot stored : List ElementValue) (id : List ℕ) → are_rising (ids_of stored) ≡ true → element_of list id ≡ None → element_of (carried_all (takings stored list) snapshot) id ≡ element_of snapshot id
+all-carried-other : (list snapshot stored : List ElementValue) (id : List ℕ) → are_rising (ids_of stored) ≡ true
+    → element_of list id ≡ None → element_of (carried_all (takings stored list) snapshot) id ≡ element_of snapshot id
 all-carried-other [] snapshot stored id rise n = refl
 all-carried-other (e ∷ more) snapshot stored id rise n =
     let h = none-tail e more id n in
     let taking : Taking = record { before = element_of stored e.id; taken = e } in
     ap (λ ts. element_of (carried_all ts snapshot) id) (takings-more stored e more rise)
-    ∙ (elim (is_taken stored e) as (λ b. element_of (carried_all (cond b (taking ∷ takings (with_put e stored) more) (takings stored more)) snapshot) id ≡ element_of snapshot id) [
-      | true ↦ all-carried-other more (carried taking snapshot) (with_put e stored) id (rises e stored rise) h.1 ∙ carried-other (element_of stored e.id) e snapshot id h.0
+    ∙ (elim (is_taken stored e) as (λ b. element_of
+    (carried_all (cond b (taking ∷ takings (with_put e stored) more) (takings stored more)) snapshot) id
+    ≡ element_of snapshot id) [
+      | true ↦ all-carried-other more (carried taking snapshot) (with_put e stored) id (rises e stored rise) h.1
+          ∙ carried-other (element_of stored e.id) e snapshot id h.0
       | false ↦ all-carried-other more snapshot stored id rise h.1
     ])
 
-pub untouched-grown : (old new : List (List ℕ)) (snapshot stored : List ElementValue) → StillTouches old new → AreUntouched old snapshot stored → AreUntouched new snapshot stored
+pub untouched-grown : (old new : List (List ℕ)) (snapshot stored : List ElementValue) → StillTouches old new
+    → AreUntouched old snapshot stored → AreUntouched new snapshot stored
 untouched-grown old new snapshot stored still same id f = same id (still id f)
 
-pub untouched-taken : (old new : List (List ℕ)) (list snapshot stored : List ElementValue) → HasTouched old list new → AreUntouched old snapshot stored → AreUntouched new snapshot (taken_all list stored)
-untouched-taken old new list snapshot stored h same id f = same id (h.still id f) ∙ sym (all-taken-other list stored id (h.listed id f))
+pub untouched-taken : (old new : List (List ℕ)) (list snapshot stored : List ElementValue) → HasTouched old list new
+    → AreUntouched old snapshot stored → AreUntouched new snapshot (taken_all list stored)
+untouched-taken old new list snapshot stored h same id f =
+    same id (h.still id f) ∙ sym (all-taken-other list stored id (h.listed id f))
 
-pub untouched-carried : (old new : List (List ℕ)) (list snapshot stored : List ElementValue) → are_rising (ids_of stored) ≡ true → HasTouched old list new → AreUntouched old snapshot stored → AreUntouched new (carried_all (takings stored list) snapshot) (taken_all list stored)
+pub untouched-carried : (old new : List (List ℕ)) (list snapshot stored : List ElementValue)
+    → are_rising (ids_of stored) ≡ true → HasTouched old list new → AreUntouched old snapshot stored
+    → AreUntouched new (carried_all (takings stored list) snapshot) (taken_all list stored)
 untouched-carried old new list snapshot stored rise h same id f =
-    all-carried-other list snapshot stored id rise (h.listed id f) ∙ same id (h.still id f) ∙ sym (all-taken-other list stored id (h.listed id f))
+    all-carried-other list snapshot stored id rise (h.listed id f) ∙ same id (h.still id f)
+    ∙ sym (all-taken-other list stored id (h.listed id f))
 
 -- ---- the stored elements of some ids, put over others
 abbrev pub all_found : List ElementValue → List (List ℕ) → List ElementValue → List ElementValue
 all_found stored [] es = es
 all_found stored (id ∷ ids) es = all_found stored ids (with_made (element_of stored id) es)
 
-found-rise : (stored : List ElementValue) (ids : List (List ℕ)) (es : List ElementValue) → are_rising (ids_of es) ≡ true → are_rising (ids_of (all_found stored ids es)) ≡ true
+found-rise : (stored : List ElementValue) (ids : List (List ℕ)) (es : List ElementValue) → are_rising (ids_of es) ≡ true
+    → are_rising (ids_of (all_found stored ids es)) ≡ true
 found-rise stored [] es h = h
-found-rise stored (i ∷ ids) es h = found-rise stored ids (with_made (element_of stored i) es) (made-rises (element_of stored i) es h)
+found-rise stored (i ∷ ids) es h =
+    found-rise stored ids (with_made (element_of stored i) es) (made-rises (element_of stored i) es h)
 
 module _ (stored : List ElementValue) where
   -- one of them
-  made-each : (i : List ℕ) (es : List ElementValue) (id : List ℕ) → element_of (with_made (element_of stored i) es) id ≡ cond (bytes_eq id i) (option_or (element_of stored id) (element_of es id)) (element_of es id)
+  made-each : (i : List ℕ) (es : List ElementValue) (id : List ℕ) → element_of (with_made (element_of stored i) es) id
+      ≡ cond (bytes_eq id i) (option_or (element_of stored id) (element_of es id)) (element_of es id)
   made-each i es id = either (element_of stored i) refl (cases_Bool (bytes_eq id i))
     where
-      either : (o : Option ElementValue) → element_of stored i ≡ o → (bytes_eq id i ≡ true) ⊎ (bytes_eq id i ≡ false) → element_of (with_made o es) id ≡ cond (bytes_eq id i) (option_or (element_of stored id) (element_of es id)) (element_of es id)
-      either None is (inl t) = sym (cond-true (bytes_eq id i) _ _ t ∙ ap (λ s. option_or s (element_of es id)) (ap (element_of stored) (bytes_eq-true id i t) ∙ is))
+      either : (o : Option ElementValue) → element_of stored i ≡ o → (bytes_eq id i ≡ true) ⊎ (bytes_eq id i ≡ false)
+          → element_of (with_made o es) id ≡ cond (bytes_eq id i) (option_or (element_of stored id) (element_of es id))
+          (element_of es id)
+      either None is (inl t) = sym (cond-true (bytes_eq id i) _ _ t
+          ∙ ap (λ s. option_or s (element_of es id)) (ap (element_of stored) (bytes_eq-true id i t) ∙ is))
       either None is (inr f) = sym (cond-false (bytes_eq id i) _ _ f)
       either (Some x) is (inl t) =
-          put-each x es id ∙ cond-true (has_id id x) (Some x) (element_of es id) (ap (bytes_eq id) (found-id stored i (Some x) (sym is)) ∙ t)
-          ∙ sym (cond-true (bytes_eq id i) _ _ t ∙ ap (λ s. option_or s (element_of es id)) (ap (element_of stored) (bytes_eq-true id i t) ∙ is))
+          put-each x es id ∙ cond-true (has_id id x) (Some x) (element_of es id)
+          (ap (bytes_eq id) (found-id stored i (Some x) (sym is)) ∙ t)
+          ∙ sym (cond-true (bytes_eq id i) _ _ t
+          ∙ ap (λ s. option_or s (element_of es id)) (ap (element_of stored) (bytes_eq-true id i t) ∙ is))
       either (Some x) is (inr f) =
-          put-each x es id ∙ cond-false (has_id id x) (Some x) (element_of es id) (ap (bytes_eq id) (found-id stored i (Some x) (sym is)) ∙ f)
+          put-each x es id ∙ cond-false (has_id id x) (Some x) (element_of es id)
+          (ap (bytes_eq id) (found-id stored i (Some x) (sym is)) ∙ f)
           ∙ sym (cond-false (bytes_eq id i) _ _ f)
 
-  twice : (a b : Bool) (s e : Option ElementValue) → cond a (option_or s (cond b (option_or s e) e)) (cond b (option_or s e) e) ≡ cond (b || a) (option_or s e) e
+  twice : (a b : Bool) (s e : Option ElementValue)
+      → cond a (option_or s (cond b (option_or s e) e)) (cond b (option_or s e) e) ≡ cond (b || a) (option_or s e) e
   twice true true None e = refl
   twice true true (Some x) e = refl
   twice true false s e = refl
   twice false true s e = refl
   twice false false s e = refl
 
-  found-each : (ids : List (List ℕ)) (es : List ElementValue) (id : List ℕ) → element_of (all_found stored ids es) id ≡ cond (is_among ids id) (option_or (element_of stored id) (element_of es id)) (element_of es id)
+  found-each : (ids : List (List ℕ)) (es : List ElementValue) (id : List ℕ)
+      → element_of (all_found stored ids es) id
+      ≡ cond (is_among ids id) (option_or (element_of stored id) (element_of es id)) (element_of es id)
   found-each [] es id = refl
   found-each (i ∷ ids) es id =
       found-each ids (with_made (element_of stored i) es) id
@@ -174,7 +210,8 @@ module _ (stored : List ElementValue) where
 
   module _ (captured : List ElementValue) (captured_rise : are_rising (ids_of captured) ≡ true) where
     -- the next of the copies
-    module _ (id : List ℕ) (copies new : List ElementValue) (old : Option ElementValue) (rise : are_rising (ids_of copies) ≡ true) (found : AreFound copies) (own : old ≡ element_of captured id) where
+    module _ (id : List ℕ) (copies new : List ElementValue) (old : Option ElementValue)
+        (rise : are_rising (ids_of copies) ≡ true) (found : AreFound copies) (own : old ≡ element_of captured id) where
       module _ (e : ElementValue) (is : Some e ≡ element_of stored id) where
         named : e.id ≡ id
         named = found-id stored id (Some e) is
@@ -182,7 +219,8 @@ module _ (stored : List ElementValue) where
         there : old ≡ Some e → element_of (with_all_put copies captured) e.id ≡ Some e
         there same = all-each copies captured e.id rise ∙ joined (element_of copies e.id) refl
           where
-            joined : (o : Option ElementValue) → element_of copies e.id ≡ o → option_or o (element_of captured e.id) ≡ Some e
+            joined : (o : Option ElementValue) → element_of copies e.id ≡ o
+                → option_or o (element_of captured e.id) ≡ Some e
             joined None has = ap (element_of captured) named ∙ sym own ∙ same
             joined (Some x) has = sym (found e.id x has) ∙ ap (element_of stored) named ∙ sym is
 
@@ -190,15 +228,21 @@ module _ (stored : List ElementValue) where
         still-found put i x has =
             let one = sym (ap (λ es. element_of es i) put ∙ put-each e copies i) ∙ has in
             elim (cases_Bool (has_id i e)) [
-              | inl t ↦ ap (element_of stored) (same_id i e t ∙ named) ∙ sym is ∙ sym (cond-true (has_id i e) (Some e) (element_of copies i) t) ∙ one
+              | inl t ↦ ap (element_of stored) (same_id i e t ∙ named) ∙ sym is
+                  ∙ sym (cond-true (has_id i e) (Some e) (element_of copies i) t) ∙ one
               | inr f ↦ found i x (sym (cond-false (has_id i e) (Some e) (element_of copies i) f) ∙ one)
             ]
 
-      pub found-over : (o : Option ElementValue) → o ≡ element_of stored id → HasPutStored copies old o new → with_all_put new captured ≡ with_made (element_of stored id) (with_all_put copies captured)
-      found-over None is put = ap (λ es. with_all_put es captured) put ∙ ap (λ o. with_made o (with_all_put copies captured)) is
-      found-over (Some e) is (inl put) = ap (λ es. with_all_put es captured) put ∙ put-below e copies captured rise captured_rise ∙ ap (λ o. with_made o (with_all_put copies captured)) is
+      pub found-over : (o : Option ElementValue) → o ≡ element_of stored id → HasPutStored copies old o new
+          → with_all_put new captured ≡ with_made (element_of stored id) (with_all_put copies captured)
+      found-over None is put =
+          ap (λ es. with_all_put es captured) put ∙ ap (λ o. with_made o (with_all_put copies captured)) is
+      found-over (Some e) is (inl put) = ap (λ es. with_all_put es captured) put
+          ∙ put-below e copies captured rise captured_rise ∙ ap (λ o. with_made o (with_all_put copies captured)) is
       found-over (Some e) is (inr same) =
-          ap (λ es. with_all_put es captured) same.0 ∙ sym (put-there e (with_all_put copies captured) (all-rise copies captured captured_rise) (there e is same.1))
+          ap (λ es. with_all_put es captured) same.0
+          ∙ sym (put-there e (with_all_put copies captured) (all-rise copies captured captured_rise)
+          (there e is same.1))
           ∙ ap (λ o. with_made o (with_all_put copies captured)) is
 
       pub found-ordered : (o : Option ElementValue) → HasPutStored copies old o new → are_rising (ids_of new) ≡ true
@@ -206,7 +250,8 @@ module _ (stored : List ElementValue) where
       found-ordered (Some e) (inl put) = ap (λ es. are_rising (ids_of es)) put ∙ rises e copies rise
       found-ordered (Some e) (inr same) = ap (λ es. are_rising (ids_of es)) same.0 ∙ rise
 
-      pub found-found : (o : Option ElementValue) → o ≡ element_of stored id → HasPutStored copies old o new → AreFound new
+      pub found-found : (o : Option ElementValue) → o ≡ element_of stored id → HasPutStored copies old o new
+          → AreFound new
       found-found None is put = λ i x has. found i x (ap (λ es. element_of es i) (sym put) ∙ has)
       found-found (Some e) is (inl put) = still-found e is put
       found-found (Some e) is (inr same) = λ i x has. found i x (ap (λ es. element_of es i) (sym same.0) ∙ has)
@@ -216,14 +261,18 @@ module _ (stored : List ElementValue) where
     or-same (Some e) = refl
 
     -- all of them are all that is stored
-    pub found-all : (ids : List (List ℕ)) → are_rising (ids_of stored) ≡ true → AreUntouched ids captured stored → all_found stored ids captured ≡ with_all_put stored captured
+    pub found-all : (ids : List (List ℕ)) → are_rising (ids_of stored) ≡ true → AreUntouched ids captured stored
+        → all_found stored ids captured ≡ with_all_put stored captured
     found-all ids rise same =
-        same_elements (all_found stored ids captured) (with_all_put stored captured) (found-rise stored ids captured captured_rise) (all-rise stored captured captured_rise)
+        same_elements (all_found stored ids captured) (with_all_put stored captured)
+        (found-rise stored ids captured captured_rise) (all-rise stored captured captured_rise)
         (λ id. found-each ids captured id
         ∙ (elim (cases_Bool (is_among ids id)) [
-          | inl t ↦ cond-true (is_among ids id) (option_or (element_of stored id) (element_of captured id)) (element_of captured id) t
+          | inl t ↦ cond-true (is_among ids id) (option_or (element_of stored id) (element_of captured id))
+              (element_of captured id) t
           | inr f ↦
-              cond-false (is_among ids id) (option_or (element_of stored id) (element_of captured id)) (element_of captured id) f
+              cond-false (is_among ids id) (option_or (element_of stored id) (element_of captured id))
+              (element_of captured id) f
               ∙ same id f ∙ sym (ap (option_or (element_of stored id)) (same id f) ∙ or-same (element_of stored id))
         ])
         ∙ sym (all-each stored captured id rise))

@@ -1,5 +1,5 @@
--- Changes that are carried into a snapshot, so that they are no part of what is captured next. This project's own,
--- after Excalidraw's store.
+-- Changes that are carried into a snapshot, so that they are no part of what is captured next. This
+-- project's own, after Excalidraw's store.
 use Rattle.std.specs.Prelude.{◌≡◌, ◌≢◌, ℕ, List, true, false, Option, Some, None, if◌then◌else◌}
 use Rattle.std.specs.Option.{option_map}
 use Rattle.frac_keys.specs.Rising.{are_rising}
@@ -19,9 +19,9 @@ pub record IsLed (old new captured result : ElementValue) : Type 0 where
   pub is_element : IsElement result
   pub applied : (part : Delta) × PartStandsFor part old new × IsApplied part captured result
 
--- What a stored change makes of the element that the snapshot holds of its id, if it holds one. The new element comes
--- where nothing was stored or the kind is another one; else nothing comes where nothing is captured, and else the
--- captured element changes as the stored one did.
+-- What a stored change makes of the element that the snapshot holds of its id, if it holds one. The
+-- new element comes where nothing was stored or the kind is another one; else nothing comes where
+-- nothing is captured, and else the captured element changes as the stored one did.
 pub record IsCarried (captured old : Option ElementValue) (new : ElementValue)
     (result : Option ElementValue) : Type 0 where
   pub created : old ≡ None → result ≡ Some new
@@ -52,7 +52,8 @@ abbrev pub carried_to : Option ElementValue → Option ElementValue → ElementV
     → Option ElementValue
 carried_to captured None new = Some new
 carried_to captured (Some old) new =
-    if same_kind old.kind new.kind then option_map (undone (record { before = new; after = old })) captured
+    if same_kind old.kind new.kind then option_map (undone (record { before = new; after = old }))
+    captured
     else Some new
 
 -- elements with one more, if there is one

@@ -28,7 +28,8 @@ abbrev pub TouchesOnly : List (List ℕ) → List ElementValue → List (List �
 TouchesOnly old list new =
     (id : List ℕ) → is_among old id ≡ false → element_of list id ≡ None → is_among new id ≡ false
 
--- The old ids are among the new ones, and so is this one, and no other one; and so is that of each of these elements.
+-- The old ids are among the new ones, and so is this one, and no other one; and so is that of each
+-- of these elements.
 pub record IsTouched (old : List (List ℕ)) (id : List ℕ) (new : List (List ℕ)) : Type 0 where
   pub still : StillTouches old new
   pub own : (other : List ℕ) → is_among new other ≡ false → bytes_eq other id ≡ false

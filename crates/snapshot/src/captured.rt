@@ -41,7 +41,8 @@ pub(crate) fn find<'a>(elements: &'a Vec<SharedElement>, id: &Text) -> Option<&'
     }
 }
 
-/// Puts the element in the place of the one of its id, or adds it. It takes no memory where there is room.
+/// Puts the element in the place of the one of its id, or adds it. It takes no memory where there
+/// is room.
 pub(crate) fn put(elements: &mut Vec<SharedElement>, e: SharedElement) -> Result<(), AllocError>
     requires { are_rising (ids_of elements.old.items) ≡ true }
     ensures ok { OnOk result (elements.new.items ≡ with_put e elements.old.items) }

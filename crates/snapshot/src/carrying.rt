@@ -57,7 +57,8 @@ fn carried(
     }
 }
 
-/// What a change of a stored element makes of the captured one: a new element of another kind takes its place.
+/// What a change of a stored element makes of the captured one: a new element of another kind takes
+/// its place.
 fn changed(
     alloc: Global,
     captured: Option<&Element>,
@@ -77,7 +78,8 @@ fn changed(
     }
 }
 
-/// Makes the change from one element to another one of its kind in the captured one, if there is one.
+/// Makes the change from one element to another one of its kind in the captured one, if there is
+/// one.
 fn follow(
     alloc: Global,
     captured: Option<&Element>,

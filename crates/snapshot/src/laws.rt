@@ -12,8 +12,8 @@ ghost use Rattle.snapshot.specs.Carried.{AreOfStoredKinds};
 ghost use Rattle.snapshot.specs.Pending.{pairs_since};
 ghost use Rattle.snapshot.specs.Touched.{AreUntouched, HasTouched, StillTouches};
 
-/// Each element of a snapshot has a stored one of its kind where it is what is stored, as after a capture; its ids are
-/// then stored.
+/// Each element of a snapshot has a stored one of its kind where it is what is stored, as after a
+/// capture; its ids are then stored.
 pub fn stored_kinds_are_known()
     ensures captured { (stored : List ElementValue) → AreOfStoredKinds stored stored }
     ensures known { (snapshot stored : List ElementValue) (id : List ℕ)
@@ -42,8 +42,8 @@ pub fn captured_ids_are_stored()
         → IsSome (element_of stored part.id) }
 {}
 
-/// What isn't touched is stored as the snapshot has it where more is touched, and once those that are touched besides
-/// become stored, carried into the snapshot or not.
+/// What isn't touched is stored as the snapshot has it where more is touched, and once those that
+/// are touched besides become stored, carried into the snapshot or not.
 pub fn untouched_ids_stay()
     ensures grown { (old new : List (List ℕ)) (snapshot stored : List ElementValue)
         → StillTouches old new → AreUntouched old snapshot stored

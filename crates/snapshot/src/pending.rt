@@ -56,7 +56,8 @@ pub(crate) fn parts_to(
     Ok(parts)
 }
 
-/// Adds the part from an element, if there was one, to a new one of a greater id, if it has changed.
+/// Adds the part from an element, if there was one, to a new one of a greater id, if it has
+/// changed.
 fn note(
     alloc: Global,
     parts: &mut Vec<Part>,

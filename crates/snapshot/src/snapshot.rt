@@ -25,7 +25,8 @@ use json_text::Text;
 use std::alloc::{AllocError, Global};
 use std::marker::Model;
 
-/// The elements as they were when they were last captured, one for each id, in the order of the ids.
+/// The elements as they were when they were last captured, one for each id, in the order of the
+/// ids.
 #[derive(Drop)]
 pub struct Snapshot {
     elements: Vec<SharedElement>,
@@ -76,8 +77,9 @@ impl Snapshot {
         }
     }
 
-    /// The entry of what has changed since the last capture: the parts from the elements of the snapshot to the stored
-    /// ones. The snapshot then has the stored elements; for want of memory they are unchanged.
+    /// The entry of what has changed since the last capture: the parts from the elements of the
+    /// snapshot to the stored ones. The snapshot then has the stored elements; for want of memory
+    /// they are unchanged.
     pub fn capture(&mut self, store: &Store) -> Result<Entry, AllocError>
         ensures entry { IfOk result
             (λ entry. EntryStandsFor entry (pairs_since self.old.elements store.now.elements)) }
@@ -92,18 +94,18 @@ impl Snapshot {
         })
     }
 
-    /// Plans a capture of what will be stored once the changed elements are: the elements to put, and the entry of what
-    /// will have changed since the last capture. Only the ids that were touched since then and those of the changed
-    /// elements are looked up. There is then room for the elements; those of the snapshot stay, also for want of
-    /// memory.
+    /// Plans a capture of what will be stored once the changed elements are: the elements to put,
+    /// and the entry of what will have changed since the last capture. Only the ids that were
+    /// touched since then and those of the changed elements are looked up. There is then room for
+    /// the elements; those of the snapshot stay, also for want of memory.
     pub fn plan_capture(
         &mut self,
         store: &Store,
         touched: &Touched,
         changed: &[Element],
     ) -> Result<(SnapshotStep, Entry), AllocError>
-        // Of each id that isn't touched the snapshot has what is stored. Each id of the snapshot is stored, and all
-        // that changed would be.
+        // Of each id that isn't touched the snapshot has what is stored. Each id of the snapshot is
+        // stored, and all that changed would be.
         requires untouched { AreUntouched touched.now self.old.elements store.now.elements }
         requires known { (id : Items ℕ)
             → IsSome (element_of self.old.elements id) → IsSome (element_of store.now.elements id) }
@@ -132,8 +134,8 @@ impl Snapshot {
         Ok((SnapshotStep { elements: step }, entry))
     }
 
-    /// Plans to carry what becomes stored of a list into the snapshot. There is then room for it; the elements of the
-    /// snapshot stay, also for want of memory.
+    /// Plans to carry what becomes stored of a list into the snapshot. There is then room for it;
+    /// the elements of the snapshot stay, also for want of memory.
     pub fn plan_carry(
         &mut self,
         store: &Store,
@@ -158,9 +160,10 @@ impl Snapshot {
         put_all(&mut self.elements, step.elements);
     }
 
-    /// Takes a stored change over that is captured by nobody. `old` is what was stored of the id before, if anything
-    /// was. A new element, or one of another kind, is then that of the snapshot. Another change is made of the element
-    /// of the snapshot, if there is one. For want of memory the elements are unchanged.
+    /// Takes a stored change over that is captured by nobody. `old` is what was stored of the id
+    /// before, if anything was. A new element, or one of another kind, is then that of the
+    /// snapshot. Another change is made of the element of the snapshot, if there is one. For want
+    /// of memory the elements are unchanged.
     pub fn carry(&mut self, old: Option<&Element>, new: &Element) -> Result<(), AllocError>
         requires { IfSome (option_copied old) (λ old. old.id ≡ new.now.id) }
         ensures ok { OnOk result
@@ -173,7 +176,8 @@ impl Snapshot {
         carry(alloc, &mut self.elements, old, new)
     }
 
-    /// The ids of the elements that have changed since the last capture: those of the parts that a capture would give.
+    /// The ids of the elements that have changed since the last capture: those of the parts that a
+    /// capture would give.
     pub fn pending(&self, store: &Store) -> Result<List<Text>, AllocError>
         ensures { IfOk result (λ ids. (parts : Items Delta)
             × EntryStandsFor parts (pairs_since self.now.elements store.now.elements)

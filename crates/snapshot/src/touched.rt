@@ -9,7 +9,8 @@ use std::alloc::{AllocError, Global};
 use std::collections::BTreeSet;
 use std::marker::Model;
 
-/// The ids of elements that may be stored otherwise than a snapshot has them, each once, in the order of their bytes.
+/// The ids of elements that may be stored otherwise than a snapshot has them, each once, in the
+/// order of their bytes.
 #[derive(Drop)]
 pub struct Touched {
     pub(crate) ids: BTreeSet<Text>,
@@ -33,7 +34,8 @@ impl Touched {
         }
     }
 
-    /// Adds the ids of elements. For want of memory some of them may be added; none goes, and no other one comes.
+    /// Adds the ids of elements. For want of memory some of them may be added; none goes, and no
+    /// other one comes.
     pub fn touch(&mut self, list: &[Element]) -> Result<(), AllocError>
         ensures touched { OnOk result (HasTouched self.old list.now self.new) }
         ensures kept { StillTouches self.old self.new }

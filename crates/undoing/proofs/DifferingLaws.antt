@@ -47,12 +47,15 @@ same_text : (a b : ElementValue) → differ a b ≡ false → element_text (unst
 unfolding differ
 same_text a b h = bytes_eq-true _ _ (not-false (bytes_eq (element_text (unstamped a)) (element_text (unstamped b))) h)
 
-pub differ-false : (a b : ElementValue) → IsElement a → HasValidTexts a → IsElement b → HasValidTexts b → differ a b ≡ false → unstamped a ≡ unstamped b
+pub differ-false : (a b : ElementValue) → IsElement a → HasValidTexts a → IsElement b → HasValidTexts b
+    → differ a b ≡ false → unstamped a ≡ unstamped b
 differ-false a b is w is' w' h =
-    text-of-one (unstamped a) (unstamped b) (unstamped-is a is) (unstamped-written a w) (unstamped-is b is') (unstamped-written b w') (same_text a b h)
+    text-of-one (unstamped a) (unstamped b) (unstamped-is a is) (unstamped-written a w) (unstamped-is b is')
+    (unstamped-written b w') (same_text a b h)
 
 -- ---- pairs
-pub changed-true : (pair : Pair) → pair.before.id ≡ pair.after.id → IsElement pair.before → IsElement pair.after → is_changed pair ≡ true → IsChanged pair
+pub changed-true : (pair : Pair) → pair.before.id ≡ pair.after.id → IsElement pair.before → IsElement pair.after
+    → is_changed pair ≡ true → IsChanged pair
 changed-true pair id is is' h =
     let parts = and_parts (same_kind pair.before.kind pair.after.kind) (differ pair.before pair.after) h in
     record {
@@ -66,12 +69,15 @@ same_kinds a b e = ap (same_kind a) (sym e) ∙ same_kind-same a
 
 pub changed-false : (pair : Pair) → IsOfElements pair → is_changed pair ≡ false → IsUnchanged pair
 changed-false pair of h kind =
-    differ-false pair.before pair.after of.0.0 of.0.1 of.1.0 of.1.1 (sym (ap (λ b. b && differ pair.before pair.after) (same_kinds pair.before.kind pair.after.kind kind)) ∙ h)
+    differ-false pair.before pair.after of.0.0 of.0.1 of.1.0 of.1.1
+    (sym (ap (λ b. b && differ pair.before pair.after) (same_kinds pair.before.kind pair.after.kind kind)) ∙ h)
 
 pub changed-is : (pair : Pair) → IsOfElements pair → IsChanged pair → is_changed pair ≡ true
 changed-is pair of changed =
-    and_from (same_kind pair.before.kind pair.after.kind) (differ pair.before pair.after) (same_kinds pair.before.kind pair.after.kind changed.kind)
-    (true_from_ne_false (differ pair.before pair.after) (λ h. changed.differ (differ-false pair.before pair.after of.0.0 of.0.1 of.1.0 of.1.1 h)))
+    and_from (same_kind pair.before.kind pair.after.kind) (differ pair.before pair.after)
+    (same_kinds pair.before.kind pair.after.kind changed.kind)
+    (true_from_ne_false (differ pair.before pair.after)
+    (λ h. changed.differ (differ-false pair.before pair.after of.0.0 of.0.1 of.1.0 of.1.1 h)))
 
 -- ---- what has changed since a snapshot
 -- a deleted element is one too
@@ -82,81 +88,101 @@ deleted-written : (e : ElementValue) → HasValidTexts e → HasValidTexts (reco
 deleted-written e w = texts_with_deleted e true w
 
 -- an element of this id that is found is an element of the list, and of the id
-pub found-is : (elements : List ElementValue) (id : List ℕ) (e : ElementValue) → AreElements elements → element_of elements id ≡ Some e → (IsElement e × HasValidTexts e) × (e.id ≡ id)
+pub found-is : (elements : List ElementValue) (id : List ℕ) (e : ElementValue) → AreElements elements
+    → element_of elements id ≡ Some e → (IsElement e × HasValidTexts e) × (e.id ≡ id)
 found-is elements id e are h =
     let found = find-Some (has_id id) elements e h in
     (All-contains (λ e. IsElement e × HasValidTexts e) elements e are found.0, sym (same_id id e found.1))
 
 -- the pairs from the elements of one list to those of another one are of elements, of one id each
 module _ (olds : List ElementValue) (are : AreElements olds) where
-  counted-is : (new : ElementValue) (o : Option ElementValue) → element_of olds new.id ≡ o → IsElement new × HasValidTexts new → (IsElement (counted o new) × HasValidTexts (counted o new)) × ((counted o new).id ≡ new.id)
+  counted-is : (new : ElementValue) (o : Option ElementValue) → element_of olds new.id ≡ o → IsElement new
+      × HasValidTexts new → (IsElement (counted o new) × HasValidTexts (counted o new)) × ((counted o new).id ≡ new.id)
   counted-is new None h is = ((deleted-is new is.0, deleted-written new is.1), refl)
   counted-is new (Some old) h is = found-is olds new.id old are h
 
-  pub pairs-elements : (news : List ElementValue) → AreElements news → (pair : Pair) → Contains (pairs_from (element_of olds) news) pair → IsOfElements pair × (pair.before.id ≡ pair.after.id)
+  pub pairs-elements : (news : List ElementValue) → AreElements news → (pair : Pair)
+      → Contains (pairs_from (element_of olds) news) pair → IsOfElements pair × (pair.before.id ≡ pair.after.id)
   pairs-elements news are' pair c =
       let of = Contains-map (λ (e : ElementValue). pair_with (element_of olds e.id) e) news pair c in
       let is = All-contains (λ e. IsElement e × HasValidTexts e) news of.0 are' of.1 in
       let own = counted-is of.0 (element_of olds of.0.id) refl is in
       subst (λ p. IsOfElements p × (p.before.id ≡ p.after.id)) of.2 ((own.0, is), own.1)
 
-pub pending-elements : (snapshot stored : List ElementValue) → AreElements snapshot → AreElements stored → (pair : Pair) → Contains (pending snapshot stored) pair → IsOfElements pair × (pair.before.id ≡ pair.after.id)
+pub pending-elements : (snapshot stored : List ElementValue) → AreElements snapshot → AreElements stored → (pair : Pair)
+    → Contains (pending snapshot stored) pair → IsOfElements pair × (pair.before.id ≡ pair.after.id)
 pending-elements snapshot stored are are' pair c =
-    pairs-elements snapshot are stored are' pair (filter-Contains is_changed (pairs_from (element_of snapshot) stored) pair c).0
+    pairs-elements snapshot are stored are' pair (filter-Contains is_changed (pairs_from (element_of snapshot) stored)
+    pair c).0
 
-pub pending-changed : (snapshot stored : List ElementValue) → AreElements snapshot → AreElements stored → (pair : Pair) → Contains (pending snapshot stored) pair → IsChanged pair
+pub pending-changed : (snapshot stored : List ElementValue) → AreElements snapshot → AreElements stored → (pair : Pair)
+    → Contains (pending snapshot stored) pair → IsChanged pair
 pending-changed snapshot stored are are' pair c =
     let is = pending-elements snapshot stored are are' pair c in
-    changed-true pair is.1 is.0.0.0 is.0.1.0 (filter-Contains is_changed (pairs_from (element_of snapshot) stored) pair c).1
+    changed-true pair is.1 is.0.0.0 is.0.1.0 (filter-Contains is_changed (pairs_from (element_of snapshot) stored) pair
+    c).1
 
-pub pending-stands : (snapshot stored : List ElementValue) (parts : List Delta) → AreElements snapshot → AreElements stored → EntryStandsFor parts (pairs_from (element_of snapshot) stored) → EntryStandsFor parts (pending snapshot stored)
+pub pending-stands : (snapshot stored : List ElementValue) (parts : List Delta) → AreElements snapshot
+    → AreElements stored → EntryStandsFor parts (pairs_from (element_of snapshot) stored)
+    → EntryStandsFor parts (pending snapshot stored)
 pending-stands snapshot stored parts are are' stands = record {
   ordered = stands.ordered;
   each_part = λ part c.
       let own = stands.each_part part c in
       let is = (pairs-elements snapshot are stored are' own.0 own.1).0 in (
         own.0,
-        Contains-filter is_changed (pairs_from (element_of snapshot) stored) own.0 own.1 (changed-is own.0 is own.2.changed),
+        Contains-filter is_changed (pairs_from (element_of snapshot) stored) own.0 own.1
+            (changed-is own.0 is own.2.changed),
         own.2,
       );
-  each_pair = λ pair c. stands.each_pair pair (filter-Contains is_changed (pairs_from (element_of snapshot) stored) pair c).0;
+  each_pair =
+      λ pair c. stands.each_pair pair (filter-Contains is_changed (pairs_from (element_of snapshot) stored) pair c).0;
 }
 
 -- what rises from an end rises from any lesser one
-pub rise-lower : (a : Option (List ℕ)) (k : List ℕ) (ids : List (List ℕ)) → ends_rise a (Some k) ≡ true → rise_between (Some k) None ids ≡ true → rise_between a None ids ≡ true
+pub rise-lower : (a : Option (List ℕ)) (k : List ℕ) (ids : List (List ℕ)) → ends_rise a (Some k) ≡ true
+    → rise_between (Some k) None ids ≡ true → rise_between a None ids ≡ true
 rise-lower None k [] l h = refl
 rise-lower (Some a) k [] l h = refl
 rise-lower None k (id ∷ ids) l h = (and_parts (ends_rise (Some k) (Some id)) (rise_between (Some id) None ids) h).1
 rise-lower (Some a) k (id ∷ ids) l h =
     let parts = and_parts (ends_rise (Some k) (Some id)) (rise_between (Some id) None ids) h in
-    and_from (ends_rise (Some a) (Some id)) (rise_between (Some id) None ids) (bytes_less-trans a k id l parts.0) parts.1
+    and_from (ends_rise (Some a) (Some id)) (rise_between (Some id) None ids) (bytes_less-trans a k id l parts.0)
+    parts.1
 
 -- some of a list whose ids rise have rising ids
 module _ {X : Type 0} (id_of : X → List ℕ) (p : X → Bool) where
-  rise-filter : (a : Option (List ℕ)) (xs : List X) → rise_between a None (map id_of xs) ≡ true → rise_between a None (map id_of (filter p xs)) ≡ true
+  rise-filter : (a : Option (List ℕ)) (xs : List X) → rise_between a None (map id_of xs) ≡ true
+      → rise_between a None (map id_of (filter p xs)) ≡ true
   rise-filter a [] h = h
   rise-filter a (x ∷ xs) h =
       let parts = and_parts (ends_rise a (Some (id_of x))) (rise_between (Some (id_of x)) None (map id_of xs)) h in
       let rest = rise-filter (Some (id_of x)) xs parts.1 in
       elim (p x) as (λ b. rise_between a None (map id_of (cond b (x ∷ filter p xs) (filter p xs))) ≡ true) [
-        | true ↦ and_from (ends_rise a (Some (id_of x))) (rise_between (Some (id_of x)) None (map id_of (filter p xs))) parts.0 rest
+        | true ↦ and_from (ends_rise a (Some (id_of x))) (rise_between (Some (id_of x)) None (map id_of (filter p xs)))
+            parts.0 rest
         | false ↦ rise-lower a (id_of x) (map id_of (filter p xs)) parts.0 rest
       ]
 
   pub rising-filter : (xs : List X) → are_rising (map id_of xs) ≡ true → are_rising (map id_of (filter p xs)) ≡ true
   rising-filter xs h = rise-filter None xs h
 
-pub ids-from : (before : List ℕ → Option ElementValue) (elements : List ElementValue) → pair_ids (pairs_from before elements) ≡ ids_of elements
+pub ids-from : (before : List ℕ → Option ElementValue) (elements : List ElementValue)
+    → pair_ids (pairs_from before elements) ≡ ids_of elements
 ids-from before [] = refl
 ids-from before (e ∷ elements) = ap (λ ids. e.id ∷ ids) (ids-from before elements)
 
-pub pending-rise : (snapshot stored : List ElementValue) → are_rising (ids_of stored) ≡ true → are_rising (pair_ids (pending snapshot stored)) ≡ true
+pub pending-rise : (snapshot stored : List ElementValue) → are_rising (ids_of stored) ≡ true
+    → are_rising (pair_ids (pending snapshot stored)) ≡ true
 pending-rise snapshot stored h =
-    rising-filter (λ (pair : Pair). pair.after.id) is_changed (pairs_from (element_of snapshot) stored) (ap are_rising (ids-from (element_of snapshot) stored) ∙ h)
+    rising-filter (λ (pair : Pair). pair.after.id) is_changed (pairs_from (element_of snapshot) stored)
+    (ap are_rising (ids-from (element_of snapshot) stored) ∙ h)
 
 -- what is pending is an entry
-pub pending-entry : (snapshot stored : List ElementValue) → AreElements snapshot → AreElements stored → are_rising (ids_of stored) ≡ true → IsEntry (pending snapshot stored)
+pub pending-entry : (snapshot stored : List ElementValue) → AreElements snapshot → AreElements stored
+    → are_rising (ids_of stored) ≡ true → IsEntry (pending snapshot stored)
 pending-entry snapshot stored are are' rise = record {
-  each = λ pair c. ((pending-elements snapshot stored are are' pair c).0, pending-changed snapshot stored are are' pair c);
+  each =
+      λ pair c. ((pending-elements snapshot stored are are' pair c).0, pending-changed snapshot stored are are' pair c);
   ordered = pending-rise snapshot stored rise;
 }

@@ -55,7 +55,8 @@ join false true false = refl
 join false false true = refl
 join false false false = refl
 
-module _ {T : Type 0} (same : T → T → Bool) (exact : (a b : T) → same a b ≡ true → a ≡ b) (itself : (a : T) → same a a ≡ true) where
+module _ {T : Type 0} (same : T → T → Bool) (exact : (a b : T) → same a b ≡ true → a ≡ b) (itself : (a : T)
+    → same a a ≡ true) where
   in-filter : (p : T → Bool) (xs : List T) (x : T) → is_in same (filter p xs) x ≡ (p x && is_in same xs x)
   in-filter p xs x = any-filter_same (λ other. same other x) p (p x) (λ k t. ap p (exact k x t)) xs
 
@@ -70,11 +71,13 @@ module _ {T : Type 0} (same : T → T → Bool) (exact : (a b : T) → same a b 
         | inl t ↦
             ap (λ (l : List T). is_in same l x) (cond-true (are_same same now before) after merged t)
             ∙ turn b a
-            ∙ ap (λ (l : List T). (a && not b) || (is_in same l x && not (b && not a))) (sym (are_same-exact same exact now before t))
+            ∙ ap (λ (l : List T). (a && not b) || (is_in same l x && not (b && not a)))
+            (sym (are_same-exact same exact now before t))
         | inr f ↦
             ap (λ (l : List T). is_in same l x) (cond-false (are_same same now before) after merged f)
             ∙ list_any-append (λ other. same other x) left (first_occurrences same gained)
-            ∙ ap₂ (λ (p q : Bool). p || q) (in-filter (stays same before after) now x) (is_in-first same exact gained x ∙ in-filter (is_gained same before now) after x)
+            ∙ ap₂ (λ (p q : Bool). p || q) (in-filter (stays same before after) now x) (is_in-first same exact gained x
+            ∙ in-filter (is_gained same before now) after x)
             ∙ join b a (is_in same now x)
       ]
 
@@ -85,11 +88,14 @@ module _ {T : Type 0} (same : T → T → Bool) (exact : (a b : T) → same a b 
       let n : Bool = is_in same now x in
       elim (cases_Bool (are_same same before after)) [
         | inl t ↦
-            ap (λ (l : List T). is_in same l x) (cond-true (are_same same before after) now (joined same after before now) t)
+            ap (λ (l : List T). is_in same l x)
+            (cond-true (are_same same before after) now (joined same after before now) t)
             ∙ stay a n
-            ∙ ap (λ (l : List T). (is_in same l x && not a) || (n && not (a && not (is_in same l x)))) (sym (are_same-exact same exact before after t))
+            ∙ ap (λ (l : List T). (is_in same l x && not a) || (n && not (a && not (is_in same l x))))
+            (sym (are_same-exact same exact before after t))
         | inr f ↦
-            ap (λ (l : List T). is_in same l x) (cond-false (are_same same before after) now (joined same after before now) f)
+            ap (λ (l : List T). is_in same l x)
+            (cond-false (are_same same before after) now (joined same after before now) f)
             ∙ joined-items after before now x
       ]
 
@@ -99,19 +105,24 @@ module _ {T : Type 0} (same : T → T → Bool) (exact : (a b : T) → same a b 
       ∙ cond-true (are_same same after after) now (joined same after after now) (are_same-same same itself after)
 
 -- ---- elements
-undoes-leaves : (pair : Pair) (now new : ElementValue) → pair.after.kind ≡ now.kind → Undoes pair.before pair.after now new → Leaves pair now new
+undoes-leaves : (pair : Pair) (now new : ElementValue) → pair.after.kind ≡ now.kind
+    → Undoes pair.before pair.after now new → Leaves pair now new
 undoes-leaves pair now new kind undoes = record {
-  scalars = λ name e. undoes.scalars name ∙ scalar-left (scalar_of pair.before name) (scalar_of pair.after name) (scalar_of now name) (own e);
-  groups = λ e. undoes.groups ∙ list-left bytes_eq bytes_eq-true bytes_eq-same pair.before.groups pair.after.groups now.groups (own e);
+  scalars = λ name e. undoes.scalars name
+      ∙ scalar-left (scalar_of pair.before name) (scalar_of pair.after name) (scalar_of now name) (own e);
+  groups = λ e. undoes.groups ∙ list-left bytes_eq bytes_eq-true bytes_eq-same pair.before.groups pair.after.groups
+      now.groups (own e);
   group_items = λ e item.
       ap (λ (l : List (List ℕ)). is_in bytes_eq l item) undoes.groups
       ∙ undone-items bytes_eq bytes_eq-true bytes_eq-same pair.before.groups pair.after.groups now.groups item;
   bound = λ e.
       undoes.bound
-      ∙ list-left same_listing_entry same_listing_entry-exact same_listing_entry-same pair.before.bound pair.after.bound now.bound (own e);
+      ∙ list-left same_listing_entry same_listing_entry-exact same_listing_entry-same pair.before.bound pair.after.bound
+      now.bound (own e);
   bound_items = λ e item.
       ap (λ l. is_in same_listing_entry l item) undoes.bound
-      ∙ undone-items same_listing_entry same_listing_entry-exact same_listing_entry-same pair.before.bound pair.after.bound now.bound item;
+      ∙ undone-items same_listing_entry same_listing_entry-exact same_listing_entry-same pair.before.bound
+      pair.after.bound now.bound item;
 }
   where
     own : {P : Type 0} → P ⊎ (pair.after.kind ≢ now.kind) → P
@@ -128,13 +139,17 @@ itself-leaves pair now apart = record {
 }
 
 -- undoing a pair leaves what it is to leave
-pub undone-leaves : (pair : Pair) (now : ElementValue) → IsOfElements pair → pair.before.kind ≡ pair.after.kind → IsElement now → HasValidTexts now
+pub undone-leaves : (pair : Pair) (now : ElementValue) → IsOfElements pair → pair.before.kind ≡ pair.after.kind
+    → IsElement now → HasValidTexts now
     → Leaves pair now (undone pair now)
 undone-leaves pair now of kind isnow wnow =
     let own = undone-undoes pair now of kind isnow wnow in
     elim (cases_Bool (same_kind pair.after.kind now.kind)) [
-      | inl t ↦ let here = same_kind-true pair.after.kind now.kind of.1.0.kind isnow.kind t in undoes-leaves pair now (undone pair now) here (own.undone here)
+      | inl t ↦ let here = same_kind-true pair.after.kind now.kind of.1.0.kind isnow.kind t in
+          undoes-leaves pair now (undone pair now) here (own.undone here)
       | inr f ↦
-          let apart : pair.after.kind ≢ now.kind = λ e. both_ways (same_kind pair.after.kind now.kind) f (ap (same_kind pair.after.kind) (sym e) ∙ same_kind-same pair.after.kind) in
+          let apart : pair.after.kind ≢ now.kind =
+          λ e. both_ways (same_kind pair.after.kind now.kind) f (ap (same_kind pair.after.kind) (sym e)
+          ∙ same_kind-same pair.after.kind) in
           subst (Leaves pair now) (sym (own.other apart)) (itself-leaves pair now apart)
     ]

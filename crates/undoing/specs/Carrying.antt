@@ -1,5 +1,5 @@
--- What taking an update makes of stored elements, and what a change that nobody captures makes of a snapshot, as
--- functions. This project's own, after Excalidraw's store.
+-- What taking an update makes of stored elements, and what a change that nobody captures makes of a
+-- snapshot, as functions. This project's own, after Excalidraw's store.
 use Rattle.std.specs.Prelude.{List, [], ◌∷◌, Option, Some, None, if◌then◌else◌}
 use Rattle.elem.specs.ElementValue.{ElementValue}
 use Rattle.elem_store.specs.Updates.{Taking, element_of, is_taken}
@@ -23,17 +23,21 @@ abbrev pub taken_all : List ElementValue → List ElementValue → List ElementV
 taken_all [] stored = stored
 taken_all (e ∷ more) stored = taken_all more (taken e stored)
 
--- a snapshot after a change from one element to another of its kind, which is made of the captured one, if there is one
-abbrev pub followed : Option ElementValue → ElementValue → ElementValue → List ElementValue → List ElementValue
+-- a snapshot after a change from one element to another of its kind, which is made of the captured
+-- one, if there is one
+abbrev pub followed : Option ElementValue → ElementValue → ElementValue → List ElementValue
+    → List ElementValue
 followed None old new snapshot = snapshot
-followed (Some captured) old new snapshot = with_put (undone (record { before = new; after = old }) captured) snapshot
+followed (Some captured) old new snapshot =
+    with_put (undone (record { before = new; after = old }) captured) snapshot
 
--- A snapshot after a stored change was carried into it: a new element, or one of another kind, is then that of the
--- snapshot.
+-- A snapshot after a stored change was carried into it: a new element, or one of another kind, is
+-- then that of the snapshot.
 abbrev pub carried_over : Option ElementValue → ElementValue → List ElementValue → List ElementValue
 carried_over None new snapshot = with_put new snapshot
 carried_over (Some old) new snapshot =
-    if same_kind old.kind new.kind then followed (element_of snapshot new.id) old new snapshot else with_put
+    if same_kind old.kind new.kind then followed (element_of snapshot new.id) old new snapshot
+    else with_put
     new snapshot
 
 abbrev pub carried : Taking → List ElementValue → List ElementValue

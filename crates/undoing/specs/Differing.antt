@@ -1,5 +1,5 @@
--- Which elements differ outside the stamp, and which of a board's have since a snapshot of them. This project's own,
--- after Excalidraw's store.
+-- Which elements differ outside the stamp, and which of a board's have since a snapshot of them.
+-- This project's own, after Excalidraw's store.
 use Rattle.std.specs.Prelude.{List, Bool, not, ◌&&◌, filter, bytes_eq}
 use Rattle.elem.specs.declared.kind.Kind.{Kind}
 use Rattle.elem.specs.ElementValue.{ElementValue}

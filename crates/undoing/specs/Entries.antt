@@ -1,4 +1,5 @@
--- Entries as pairs of elements in full, and what a step gives of them. This project's own, after Excalidraw's history.
+-- Entries as pairs of elements in full, and what a step gives of them. This project's own, after
+-- Excalidraw's history.
 use Rattle.std.specs.Prelude.{◌≡◌, ℕ, List, true, Some, IfSome, All, Contains, map}
 use Rattle.frac_keys.specs.Rising.{are_rising}
 use Rattle.elem.specs.ElementValue.{ElementValue}
@@ -24,7 +25,8 @@ IsTakingOfElements taking = IfSome taking.before (λ e. IsElement e × HasValidT
 abbrev pub pair_ids : List Pair → List (List ℕ)
 pair_ids pairs = map (λ (pair : Pair). pair.after.id) pairs
 
--- The pairs of an entry are of elements and changed, in the order of their ids; so are those of each entry of a stack.
+-- The pairs of an entry are of elements and changed, in the order of their ids; so are those of
+-- each entry of a stack.
 pub record IsEntry (pairs : List Pair) : Type 0 where
   pub each : (pair : Pair) → Contains pairs pair → IsOfElements pair × IsChanged pair
   pub ordered : are_rising (pair_ids pairs) ≡ true
@@ -32,8 +34,10 @@ pub record IsEntry (pairs : List Pair) : Type 0 where
 abbrev pub AreEntries : List (List Pair) → Type 0
 AreEntries stack = All IsEntry stack
 
--- The element is that which undoing a pair of the entry makes of the stored one, stamped, and the two differ.
-pub record IsGiven (stored : List ElementValue) (time nonce : ℕ) (pairs : List Pair) (e : ElementValue) : Type 0 where
+-- The element is that which undoing a pair of the entry makes of the stored one, stamped, and the
+-- two differ.
+pub record IsGiven (stored : List ElementValue) (time nonce : ℕ) (pairs : List Pair)
+    (e : ElementValue) : Type 0 where
   pub pair : Pair
   pub now : ElementValue
   pub among : Contains pairs pair
@@ -41,7 +45,8 @@ pub record IsGiven (stored : List ElementValue) (time nonce : ℕ) (pairs : List
   pub differs : differ now (undone pair now) ≡ true
   pub is : e ≡ stamped time nonce (undone pair now)
 
--- Undoing a pair of the entry would change the stored element of this id, which stands at the greatest version.
+-- Undoing a pair of the entry would change the stored element of this id, which stands at the
+-- greatest version.
 pub record IsFullId (stored : List ElementValue) (pairs : List Pair) (full : List ℕ) : Type 0 where
   pub pair : Pair
   pub now : ElementValue

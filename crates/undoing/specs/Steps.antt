@@ -1,4 +1,5 @@
--- One step of undo or redo over whole elements, as a function. This project's own, after Excalidraw's history.
+-- One step of undo or redo over whole elements, as a function. This project's own, after
+-- Excalidraw's history.
 use Rattle.std.specs.Prelude.{ℕ, ◌+◌, ◌==◌, List, [], ◌∷◌, Bool, false, not, ◌&&◌, ◌||◌, Option, Some, None, Result, Ok, Err, find, map, filter_map, if◌then◌else◌}
 use Rattle.std.specs.List.{list_any}
 use Rattle.std.specs.Option.{option_map, option_map_or, option_and_then}
@@ -18,8 +19,8 @@ abbrev pub reverted : List ElementValue → Pair → Option Reverted
 reverted stored pair = option_map (λ now. record { now = now; undone = undone pair now })
     (element_of stored pair.after.id)
 
--- whether it changes outside the stamp; whether anybody sees that: it is live before or after; and whether it can't,
--- since it stands at the greatest version
+-- whether it changes outside the stamp; whether anybody sees that: it is live before or after; and
+-- whether it can't, since it stands at the greatest version
 abbrev pub changes : Reverted → Bool
 changes r = differ r.now r.undone
 
@@ -29,9 +30,11 @@ is_visible r = changes r && (not r.now.deleted || not r.undone.deleted)
 abbrev pub is_full : Reverted → Bool
 is_full r = changes r && r.now.version == greatest_whole
 
--- An entry of pairs is seen on a board: undoing it changes, outside the stamp, an element that is live before or after.
+-- An entry of pairs is seen on a board: undoing it changes, outside the stamp, an element that is
+-- live before or after.
 abbrev pub is_seen : List ElementValue → List Pair → Bool
-is_seen stored pairs = list_any (λ pair. option_map_or is_visible (reverted stored pair) false) pairs
+is_seen stored pairs =
+    list_any (λ pair. option_map_or is_visible (reverted stored pair) false) pairs
 
 -- the element with the stamp of a step
 abbrev pub stamped : ℕ → ℕ → ElementValue → ElementValue
@@ -39,7 +42,8 @@ stamped time nonce e = record e { version = e.version + 1; nonce = nonce; update
 
 abbrev pub given_of : List ElementValue → ℕ → ℕ → Pair → Option ElementValue
 given_of stored time nonce pair =
-    option_and_then (λ r. if changes r then Some (stamped time nonce r.undone) else None) (reverted stored pair)
+    option_and_then (λ r. if changes r then Some (stamped time nonce r.undone) else None)
+    (reverted stored pair)
 
 -- the elements that undoing an entry changes, stamped
 abbrev pub given : List ElementValue → ℕ → ℕ → List Pair → List ElementValue
@@ -51,8 +55,8 @@ full_id stored pairs =
     option_map (λ (pair : Pair). pair.after.id)
     (find (λ pair. option_map_or is_full (reverted stored pair) false) pairs)
 
--- the topmost entry of a stack that is seen, what is below it, and the other stack once the entries above it went
--- there, one after another, with before and after exchanged
+-- the topmost entry of a stack that is seen, what is below it, and the other stack once the entries
+-- above it went there, one after another, with before and after exchanged
 pub record Sought : Type 0 where
   pub entry : List Pair
   pub below : List (List Pair)
@@ -85,7 +89,10 @@ abbrev pub turn_unless : Option (List ℕ) → Turn → Result Turn (List ℕ)
 turn_unless (Some id) turn = Err id
 turn_unless None turn = Ok turn
 
--- One step: nothing where no entry is seen; else the least id whose element can't change, or the step.
-abbrev pub step : List ElementValue → ℕ → ℕ → List (List Pair) → List (List Pair) → Option (Result Turn (List ℕ))
+-- One step: nothing where no entry is seen; else the least id whose element can't change, or the
+-- step.
+abbrev pub step : List ElementValue → ℕ → ℕ → List (List Pair) → List (List Pair)
+    → Option (Result Turn (List ℕ))
 step stored time nonce from to =
-    option_map (λ s. turn_unless (full_id stored s.entry) (turn_of stored time nonce s)) (sought stored from to)
+    option_map (λ s. turn_unless (full_id stored s.entry) (turn_of stored time nonce s))
+    (sought stored from to)

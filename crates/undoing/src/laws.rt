@@ -22,15 +22,18 @@ ghost use Rattle.undoing.specs.Undoing.{undone};
 /// The texts tell whether two elements differ outside the stamp.
 pub fn differing_is_told()
     ensures differ { (a b : ElementValue) → differ a b ≡ true → unstamped a ≢ unstamped b }
-    ensures same { (a b : ElementValue) → IsElement a → HasValidTexts a → IsElement b → HasValidTexts b
+    ensures same { (a b : ElementValue) → IsElement a → HasValidTexts a → IsElement b
+        → HasValidTexts b
         → differ a b ≡ false → unstamped a ≡ unstamped b }
 {}
 
 /// They tell whether a pair of elements is changed.
 pub fn changed_is_told()
-    ensures changed { (pair : Pair) → pair.before.id ≡ pair.after.id → IsElement pair.before → IsElement pair.after
+    ensures changed { (pair : Pair) → pair.before.id ≡ pair.after.id → IsElement pair.before
+        → IsElement pair.after
         → is_changed pair ≡ true → IsChanged pair }
-    ensures unchanged { (pair : Pair) → IsOfElements pair → is_changed pair ≡ false → IsUnchanged pair }
+    ensures unchanged { (pair : Pair) → IsOfElements pair → is_changed pair ≡ false
+        → IsUnchanged pair }
     ensures told { (pair : Pair) → IsOfElements pair → IsChanged pair → is_changed pair ≡ true }
 {}
 
@@ -45,7 +48,8 @@ pub fn pending_is_an_entry()
         → EntryStandsFor parts (pending snapshot stored) }
 {}
 
-/// What is made of an element by undoing a change is an element, undoes the change, and is the only element that does.
+/// What is made of an element by undoing a change is an element, undoes the change, and is the only
+/// element that does.
 pub fn undone_is_unique()
     ensures undoes { (pair : Pair) (now : ElementValue)
         → IsOfElements pair → pair.before.kind ≡ pair.after.kind → IsElement now → HasValidTexts now
@@ -59,14 +63,16 @@ pub fn undone_is_unique()
         → result ≡ undone pair now }
 {}
 
-/// The inverse of a part makes the undone element of any element, and the part that of the change the other way round.
+/// The inverse of a part makes the undone element of any element, and the part that of the change
+/// the other way round.
 pub fn parts_make_the_undone()
     ensures inverse { (pair : Pair) (now : ElementValue)
         → IsOfElements pair → pair.before.kind ≡ pair.after.kind → IsElement now → HasValidTexts now
         → (part : Delta) (result : ElementValue) → PartStandsFor part pair.before pair.after
         → IsElement result → IsApplied (inverse part) now result → result ≡ undone pair now }
     ensures part { (old new captured : ElementValue)
-        → IsElement old → HasValidTexts old → IsElement new → HasValidTexts new → old.kind ≡ new.kind
+        → IsElement old → HasValidTexts old → IsElement new → HasValidTexts new
+        → old.kind ≡ new.kind
         → IsElement captured → HasValidTexts captured
         → (part : Delta) (result : ElementValue) → PartStandsFor part old new
         → IsElement result → IsApplied part captured result
@@ -75,15 +81,18 @@ pub fn parts_make_the_undone()
 
 /// An element that is put is the one of its id, the others stay, and the ids rise.
 pub fn put_keeps_the_order()
-    ensures { (e : ElementValue) (elements : List ElementValue) → are_rising (ids_of elements) ≡ true
+    ensures { (e : ElementValue) (elements : List ElementValue)
+        → are_rising (ids_of elements) ≡ true
         → (are_rising (ids_of (with_put e elements)) ≡ true)
         × ((id : List ℕ) → element_of (with_put e elements) id
         ≡ (if has_id id e then Some e else element_of elements id)) }
 {}
 
-/// What is made of stored elements by taking an update is what a store has that took it, and nothing else is.
+/// What is made of stored elements by taking an update is what a store has that took it, and
+/// nothing else is.
 pub fn update_is_taken()
-    ensures has { (stored : List ElementValue) (e : ElementValue) → are_rising (ids_of stored) ≡ true
+    ensures has { (stored : List ElementValue) (e : ElementValue)
+        → are_rising (ids_of stored) ≡ true
         → HasTaken stored e (taken e stored) }
     ensures only { (stored : List ElementValue) (e : ElementValue) (new : List ElementValue)
         → are_rising (ids_of stored) ≡ true → HasTaken stored e new → new ≡ taken e stored }
@@ -99,22 +108,27 @@ pub fn updates_are_taken()
         → AreElements (taken_all list stored) }
 {}
 
-/// A snapshot into which changes of elements are carried stays one of elements in the order of their ids, and what
-/// becomes stored of elements are such changes.
+/// A snapshot into which changes of elements are carried stays one of elements in the order of
+/// their ids, and what becomes stored of elements are such changes.
 pub fn carrying_keeps_elements()
     ensures elements { (takings : List Taking) (snapshot : List ElementValue)
-        → All IsTakingOfElements takings → AreElements snapshot → AreElements (carried_all takings snapshot) }
+        → All IsTakingOfElements takings → AreElements snapshot
+        → AreElements (carried_all takings snapshot) }
     ensures takings { (updates list : List ElementValue)
         → AreElements updates → AreElements list → All IsTakingOfElements (takings updates list) }
     ensures ordered { (takings : List Taking) (snapshot : List ElementValue)
-        → are_rising (ids_of snapshot) ≡ true → are_rising (ids_of (carried_all takings snapshot)) ≡ true }
+        → are_rising (ids_of snapshot) ≡ true → are_rising (ids_of (carried_all takings snapshot))
+        ≡ true }
 {}
 
-/// What a step gives of an entry: each stored element that undoing a pair changes, stamped, so that it becomes stored.
+/// What a step gives of an entry: each stored element that undoing a pair changes, stamped, so that
+/// it becomes stored.
 pub fn step_gives_the_undone()
-    ensures each { (stored : List ElementValue) (time nonce : ℕ) (pairs : List Pair) (e : ElementValue)
+    ensures each { (stored : List ElementValue) (time nonce : ℕ) (pairs : List Pair)
+        (e : ElementValue)
         → Contains (given stored time nonce pairs) e → IsGiven stored time nonce pairs e }
-    ensures all { (stored : List ElementValue) (time nonce : ℕ) (pairs : List Pair) (e : ElementValue)
+    ensures all { (stored : List ElementValue) (time nonce : ℕ) (pairs : List Pair)
+        (e : ElementValue)
         → IsGiven stored time nonce pairs e → Contains (given stored time nonce pairs) e }
     ensures taken { (stored : List ElementValue) (time nonce : ℕ) → AreElements stored
         → (pairs : List Pair) (e : ElementValue)
@@ -123,8 +137,10 @@ pub fn step_gives_the_undone()
 
 /// Their ids rise; where no version is full they are elements, and their changes are an entry.
 pub fn step_gives_elements()
-    ensures ordered { (stored : List ElementValue) (time nonce : ℕ) → AreElements stored → (pairs : List Pair)
-        → are_rising (pair_ids pairs) ≡ true → are_rising (ids_of (given stored time nonce pairs)) ≡ true }
+    ensures ordered { (stored : List ElementValue) (time nonce : ℕ) → AreElements stored
+        → (pairs : List Pair)
+        → are_rising (pair_ids pairs) ≡ true → are_rising (ids_of (given stored time nonce pairs))
+        ≡ true }
     ensures elements { (stored : List ElementValue) (time nonce : ℕ) (pairs : List Pair)
         → AreElements stored → IsEntry pairs → time ≤ greatest_whole → nonce ≤ greatest_whole
         → full_id stored pairs ≡ None → AreElements (given stored time nonce pairs) }
@@ -133,14 +149,18 @@ pub fn step_gives_elements()
         → full_id stored pairs ≡ None → IsEntry (made stored (given stored time nonce pairs)) }
 {}
 
-/// A step that stops names the least id of which the stored element would change and stands at the greatest version.
+/// A step that stops names the least id of which the stored element would change and stands at the
+/// greatest version.
 pub fn step_stops_at_the_least()
-    ensures stops { (stored : List ElementValue) (time nonce : ℕ) (from to : List (List Pair)) (id : List ℕ)
+    ensures stops { (stored : List ElementValue) (time nonce : ℕ) (from to : List (List Pair))
+        (id : List ℕ)
         → step stored time nonce from to ≡ Some (Err id)
-        → (seen : Sought) × (sought stored from to ≡ Some seen) × (full_id stored seen.entry ≡ Some id) }
+        → (seen : Sought) × (sought stored from to ≡ Some seen)
+        × (full_id stored seen.entry ≡ Some id) }
     ensures full { (stored : List ElementValue) (pairs : List Pair) (id : List ℕ)
         → full_id stored pairs ≡ Some id → IsFullId stored pairs id }
-    ensures least { (stored : List ElementValue) (pairs : List Pair) → are_rising (pair_ids pairs) ≡ true
+    ensures least { (stored : List ElementValue) (pairs : List Pair)
+        → are_rising (pair_ids pairs) ≡ true
         → (id : List ℕ) → full_id stored pairs ≡ Some id
         → (other : List ℕ) → IsFullId stored pairs other → bytes_less other id ≡ false }
     ensures none { (stored : List ElementValue) (pairs : List Pair)
@@ -150,7 +170,9 @@ pub fn step_stops_at_the_least()
 /// A step over entries gives elements, and leaves entries.
 pub fn step_keeps_entries()
     ensures exchanged { (pairs : List Pair) → IsEntry pairs → IsEntry (map exchanged pairs) }
-    ensures step { (stored : List ElementValue) (time nonce : ℕ) (from to : List (List Pair)) (turn : Turn)
-        → AreElements stored → AreEntries from → AreEntries to → time ≤ greatest_whole → nonce ≤ greatest_whole
+    ensures step { (stored : List ElementValue) (time nonce : ℕ) (from to : List (List Pair))
+        (turn : Turn)
+        → AreElements stored → AreEntries from → AreEntries to → time ≤ greatest_whole
+        → nonce ≤ greatest_whole
         → step stored time nonce from to ≡ Some (Ok turn) → IsSoundTurn turn }
 {}

@@ -27,18 +27,24 @@ use Rattle.view.specs.Shown.{is_live, live_elements, in_scene_order, placed, sho
 use Rattle.view.proofs.SceneOrder.{IsPermutation-in_scene_order}
 
 -- ---- lists and options
-map-all : {X Y : Type 0} (P : X → Type 0) (Q : Y → Type 0) (f : X → Y) (xs : List X) → ((x : X) → P x → Q (f x)) → AllByRecursion P xs → AllByRecursion Q (map f xs)
+map-all : {X Y : Type 0} (P : X → Type 0) (Q : Y → Type 0) (f : X → Y) (xs : List X) → ((x : X) → P x → Q (f x))
+    → AllByRecursion P xs → AllByRecursion Q (map f xs)
 map-all P Q f xs each all = All-map Q f xs (All-weaker P (λ x. Q (f x)) each xs all)
 
 find-some : {X : Type 0} (P : X → Type 0) (p : X → Bool) (xs : List X) → AllByRecursion P xs → IfSome (find p xs) P
 find-some P p [] all = tt
-find-some P p (x ∷ xs) all = elim (p x) as (λ (b : Bool). IfSome (if b then Some x else find p xs) P) [ true ↦ all.0 | false ↦ find-some P p xs all.1 ]
+find-some P p (x ∷ xs) all = elim (p x) as (λ (b : Bool). IfSome (if b then Some x else find p xs) P) [
+  | true ↦ all.0
+  | false ↦ find-some P p xs all.1
+]
 
-map-some : {X Y : Type 0} (P : X → Type 0) (Q : Y → Type 0) (f : X → Y) (o : Option X) → ((x : X) → P x → Q (f x)) → IfSome o P → IfSome (option_map f o) Q
+map-some : {X Y : Type 0} (P : X → Type 0) (Q : Y → Type 0) (f : X → Y) (o : Option X) → ((x : X) → P x → Q (f x))
+    → IfSome o P → IfSome (option_map f o) Q
 map-some P Q f None each is = tt
 map-some P Q f (Some x) each is = each x is
 
-or-some : {X : Type 0} (P : X → Type 0) (o other : Option X) → IfSome o P → IfSome other P → IfSome (option_or o other) P
+or-some : {X : Type 0} (P : X → Type 0) (o other : Option X) → IfSome o P → IfSome other P
+    → IfSome (option_or o other) P
 or-some P None other first second = second
 or-some P (Some x) other first second = first
 
@@ -48,7 +54,8 @@ if-some P false o is = tt
 
 -- ---- keys
 ordered-kept : (es : List ElementValue) → AreKept es → AreKept (in_scene_order es)
-ordered-kept es all = recursion_from_All IsKept (in_scene_order es) (All-permutation IsKept es (in_scene_order es) (IsPermutation-in_scene_order es) (All-from_recursion IsKept es all))
+ordered-kept es all = recursion_from_All IsKept (in_scene_order es)
+    (All-permutation IsKept es (in_scene_order es) (IsPermutation-in_scene_order es) (All-from_recursion IsKept es all))
 
 placed-kept : (live : List ElementValue) → AreKept live → AreKept (placed live)
 unfolding placed
@@ -64,31 +71,41 @@ container-kept list e kept =
 -- ---- arrows
 first-all : (entries : List BoundRef) → AllByRecursion HasText entries → AllByRecursion HasText (first_entries entries)
 first-all [] all = tt
-first-all (entry ∷ entries) all = (all.0, all_kept_by (λ other. not (same_listing_entry entry other)) HasText (first_entries entries) (first-all entries all.1))
+first-all (entry ∷ entries) all = (
+  all.0,
+  all_kept_by (λ other. not (same_listing_entry entry other)) HasText (first_entries entries)
+      (first-all entries all.1),
+)
 
-text_of-written : (list : List ElementValue) (e : ElementValue) → AreKept list → IsKept e → IfSome (text_of list e) IsUtf8
+text_of-written : (list : List ElementValue) (e : ElementValue) → AreKept list → IsKept e
+    → IfSome (text_of list e) IsUtf8
 unfolding text_of
 text_of-written list e all kept =
     if-some IsUtf8 (can_hold_text e.kind) (option_or (listed_text list e) (first_text list e))
     (or-some IsUtf8 (listed_text list e) (first_text list e)
-    (map-some HasText IsUtf8 (λ (entry : BoundRef). entry.id) (find (is_text_entry list e) e.bound) (λ entry is. is) (find-some HasText (is_text_entry list e) e.bound kept.written.bound))
-    (map-some IsKept IsUtf8 id_of (find (names_container e.id) list) (λ x is. is.written.id) (find-some IsKept (names_container e.id) list all)))
+    (map-some HasText IsUtf8 (λ (entry : BoundRef). entry.id) (find (is_text_entry list e) e.bound) (λ entry is. is)
+    (find-some HasText (is_text_entry list e) e.bound kept.written.bound))
+    (map-some IsKept IsUtf8 id_of (find (names_container e.id) list) (λ x is. is.written.id)
+    (find-some IsKept (names_container e.id) list all)))
 
 entries-of : (o : Option (List ℕ)) → IfSome o IsUtf8 → AllByRecursion HasText (text_entries o)
 entries-of None is = tt
 entries-of (Some id) is = (is, tt)
 
-listing-written : (list : List ElementValue) (e : ElementValue) → AreKept list → IsKept e → AllByRecursion HasText (listing list e)
+listing-written : (list : List ElementValue) (e : ElementValue) → AreKept list → IsKept e
+    → AllByRecursion HasText (listing list e)
 unfolding listing
 listing-written list e all kept =
     first-all (filter (is_true_entry list e) e.bound ++ (arrow_entries list e ++ text_entries (text_of list e)))
     (All-append HasText (filter (is_true_entry list e) e.bound) (arrow_entries list e ++ text_entries (text_of list e))
     (all_kept_by (is_true_entry list e) HasText e.bound kept.written.bound)
     (All-append HasText (arrow_entries list e) (text_entries (text_of list e))
-    (map-all IsKept HasText (λ (arrow : ElementValue). arrow_entry arrow.id) (filter (is_bound_to e) list) (λ x is. is.written.id) (all_kept_by (is_bound_to e) IsKept list all))
+    (map-all IsKept HasText (λ (arrow : ElementValue). arrow_entry arrow.id) (filter (is_bound_to e) list)
+    (λ x is. is.written.id) (all_kept_by (is_bound_to e) IsKept list all))
     (entries-of (text_of list e) (text_of-written list e all kept))))
 
-links-kept : (list : List ElementValue) (e : ElementValue) → AreKept list → IsKept e → IsKept (with_settled_links list e)
+links-kept : (list : List ElementValue) (e : ElementValue) → AreKept list → IsKept e
+    → IsKept (with_settled_links list e)
 links-kept list e all kept =
     let a = kept.element in
     let w = kept.written in
@@ -108,9 +125,11 @@ frame-kept names_frame e kept =
       | false ↦ parts.with_frame e kept None tt
     ]
 
-groups-written : (groups : List (List ℕ)) → AllByRecursion IsUtf8 groups → AllByRecursion IsUtf8 (texts.first_texts groups)
+groups-written : (groups : List (List ℕ)) → AllByRecursion IsUtf8 groups
+    → AllByRecursion IsUtf8 (texts.first_texts groups)
 groups-written [] all = tt
-groups-written (group ∷ groups) all = (all.0, all_kept_by (texts.is_other bytes_eq group) IsUtf8 (texts.first_texts groups) (groups-written groups all.1))
+groups-written (group ∷ groups) all =
+    (all.0, all_kept_by (texts.is_other bytes_eq group) IsUtf8 (texts.first_texts groups) (groups-written groups all.1))
 
 group-kept : (e : ElementValue) → IsKept e → IsKept (grouped e)
 group-kept e kept = parts.with_groups e kept (texts.first_texts e.groups) (groups-written e.groups kept.written.groups)
@@ -120,8 +139,10 @@ settled-kept : (es : List ElementValue) → AreKept es → AreKept (settled es)
 unfolding settled
 settled-kept es all =
     let texted = map-all IsKept IsKept (with_settled_container es) es (container-kept es) all in
-    let linked = map-all IsKept IsKept (with_settled_links (settled_texts es)) (settled_texts es) (λ e is. links-kept (settled_texts es) e texted is) texted in
-    let framed' = map-all IsKept IsKept (framed (has_frame (settled_links es))) (settled_links es) (frame-kept (has_frame (settled_links es))) linked in
+    let linked = map-all IsKept IsKept (with_settled_links (settled_texts es)) (settled_texts es)
+    (λ e is. links-kept (settled_texts es) e texted is) texted in
+    let framed' = map-all IsKept IsKept (framed (has_frame (settled_links es))) (settled_links es)
+    (frame-kept (has_frame (settled_links es))) linked in
     map-all IsKept IsKept grouped (frames_settled (settled_links es)) group-kept framed'
 
 pub shown-kept : (live : List ElementValue) → AreKept live → AreKept (shown live)
@@ -132,5 +153,6 @@ pub live-kept : (stored : List ElementValue) → AreKept stored → AreKept (liv
 live-kept stored all = all_kept_by is_live IsKept stored all
 
 -- ---- as laws say it
-pub shown-elements : (live : List ElementValue) → All (λ e. IsElement e × HasValidTexts e) live → All (λ e. IsElement e × HasValidTexts e) (shown live)
+pub shown-elements : (live : List ElementValue) → All (λ e. IsElement e × HasValidTexts e) live
+    → All (λ e. IsElement e × HasValidTexts e) (shown live)
 shown-elements live all = kept-to (shown live) (shown-kept live (kept-from live all))

@@ -29,22 +29,26 @@ turned (Some a) None = refl
 turned (Some a) (Some b) = refl
 
 index_cmp-total : IsTotalOrder index_cmp
-index_cmp-total = subst IsTotalOrder (λ i a b. turned a b i) (back_total (options_total (back_total nat_list_cmp_total)))
+index_cmp-total =
+    subst IsTotalOrder (λ i a b. turned a b i) (back_total (options_total (back_total nat_list_cmp_total)))
 
 pub place_cmp-total : IsTotalOrder place_cmp
-place_cmp-total = then_total (on_total index_of index_cmp-total) (on_total (λ (e : ElementValue). e.id) nat_list_cmp_total)
+place_cmp-total =
+    then_total (on_total index_of index_cmp-total) (on_total (λ (e : ElementValue). e.id) nat_list_cmp_total)
 
 then_lt : (o p : Ordering) → (is_lt o || (is_eq o && is_lt p)) ≡ is_lt (ordering_then o p)
 then_lt Less p = refl
 then_lt Equal p = refl
 then_lt Greater p = refl
 
-by_place : (a : Option (List ℕ)) (id : List ℕ) (b : Option (List ℕ)) (other : List ℕ) → place_less a id b other ≡ is_lt (ordering_then (index_cmp a b) (slice_cmp nat_cmp id other))
+by_place : (a : Option (List ℕ)) (id : List ℕ) (b : Option (List ℕ)) (other : List ℕ)
+    → place_less a id b other ≡ is_lt (ordering_then (index_cmp a b) (slice_cmp nat_cmp id other))
 by_place None id None other = refl
 by_place None id (Some b) other = refl
 by_place (Some a) id None other = refl
 by_place (Some a) id (Some b) other =
-    ap (λ same. bytes_less a b || (same && bytes_less id other)) (texts_ties a b) ∙ then_lt (slice_cmp nat_cmp a b) (slice_cmp nat_cmp id other)
+    ap (λ same. bytes_less a b || (same && bytes_less id other)) (texts_ties a b)
+    ∙ then_lt (slice_cmp nat_cmp a b) (slice_cmp nat_cmp id other)
 
 pub comes_before-cmp : (e f : ElementValue) → comes_before e f ≡ is_lt (place_cmp e f)
 comes_before-cmp e f = by_place e.index e.id f.index f.id
@@ -65,5 +69,6 @@ tied-ids e f h = texts_ties e.id f.id ∙ then_eq (index_cmp e.index f.index) (s
 pub by_keys_and_ids : {a b : Option (List ℕ)} (key other id other_id : List ℕ) → a ≡ Some key → b ≡ Some other
     → is_lt (ordering_then (slice_cmp nat_cmp key other) (slice_cmp nat_cmp id other_id)) ≡ place_less a id b other_id
 by_keys_and_ids key other id other_id first second =
-    subst₂ (λ a b. is_lt (ordering_then (slice_cmp nat_cmp key other) (slice_cmp nat_cmp id other_id)) ≡ place_less a id b other_id) (sym first) (sym second)
+    subst₂ (λ a b. is_lt (ordering_then (slice_cmp nat_cmp key other) (slice_cmp nat_cmp id other_id))
+    ≡ place_less a id b other_id) (sym first) (sym second)
     (sym (by_place (Some key) id (Some other) other_id))

@@ -38,5 +38,6 @@ pub sorted-elements : (spots : List Spot) → IsSortedBy spot_before spots → I
 sorted-elements [] up k d low within = absurd (omega (arith, within))
 sorted-elements (spot ∷ spots) up k d low within =
     let inside : k + 1 < length (spot ∷ spots) = omega (arith, within, length-map (spot ∷ spots) element_at) in
-    subst₂ (λ e f. comes_before e f ≡ false) (sym (get_or-map element_at (spot ∷ spots) (k + 1) spot d inside)) (sym (get_or-map element_at (spot ∷ spots) k spot d (omega (arith, inside))))
+    subst₂ (λ e f. comes_before e f ≡ false) (sym (get_or-map element_at (spot ∷ spots) (k + 1) spot d inside))
+    (sym (get_or-map element_at (spot ∷ spots) k spot d (omega (arith, inside))))
     (up k spot low inside)

@@ -14,7 +14,8 @@ use Rattle.view.specs.Settled.{settled, unsettled, AreSettled}
 
 -- what is the same of two lists is the same of them when less of it is looked at
 module _ {A B : Type 0} (keep : ElementValue → A) (less : A → B) where
-  pub map-less : (es fs : List ElementValue) → map keep es ≡ map keep fs → map (λ e. less (keep e)) es ≡ map (λ e. less (keep e)) fs
+  pub map-less : (es fs : List ElementValue) → map keep es ≡ map keep fs
+      → map (λ e. less (keep e)) es ≡ map (λ e. less (keep e)) fs
   map-less es fs same = sym (map-map less keep es) ∙ ap (map less) same ∙ map-map less keep fs
 
 -- ---- what settling leaves as it is
@@ -37,7 +38,8 @@ assembled linked other = record other {
   end_binding = linked.end_binding;
 }
 
-pub same_elements : (es fs : List ElementValue) → map unplaced es ≡ map unplaced fs → map unlinked es ≡ map unlinked fs → es ≡ fs
+pub same_elements : (es fs : List ElementValue) → map unplaced es ≡ map unplaced fs → map unlinked es ≡ map unlinked fs
+    → es ≡ fs
 unfolding assembled
 same_elements [] [] linked others = refl
 same_elements [] (f ∷ fs) linked others = cc
@@ -48,14 +50,16 @@ same_elements (e ∷ es) (f ∷ fs) linked others =
     ap₂ (λ x xs. x ∷ xs) (ap₂ assembled first other) (same_elements es fs (cc) (cc))
 
 -- links that are settled stay so where nothing is changed that settling looks at
-links-stay : (es fs : List ElementValue) → map unplaced es ≡ map unplaced fs → settled_links fs ≡ fs → settled_links es ≡ es
+links-stay : (es fs : List ElementValue) → map unplaced es ≡ map unplaced fs → settled_links fs ≡ fs
+    → settled_links es ≡ es
 links-stay es fs same stay =
     same_elements (settled_links es) es
     (sym (links-unplaced es) ∙ (ap settled_links same ∙ (links-unplaced fs ∙ (ap (map unplaced) stay ∙ sym same))))
     (unlinked-links es)
 
 -- the links of what is settled stay
-pub links-settled : (elements : List ElementValue) → HaveDistinctIds elements → settled_links (settled elements) ≡ settled elements
+pub links-settled : (elements : List ElementValue) → HaveDistinctIds elements
+    → settled_links (settled elements) ≡ settled elements
 unfolding settled
 links-settled elements apart =
     let linked = settled_links elements in
@@ -65,7 +69,8 @@ links-settled elements apart =
     ∙ map-less without_frame unplaced framed linked (frames_settled-others linked))
     (links-again elements apart)
 
-pub settled-again : (elements : List ElementValue) → HaveDistinctIds elements → settled (settled elements) ≡ settled elements
+pub settled-again : (elements : List ElementValue) → HaveDistinctIds elements
+    → settled (settled elements) ≡ settled elements
 unfolding settled
 settled-again elements apart =
     let framed = frames_settled (settled_links elements) in
@@ -75,14 +80,17 @@ settled-again elements apart =
 
 pub distinct-settled : (elements : List ElementValue) → HaveDistinctIds elements → HaveDistinctIds (settled elements)
 distinct-settled elements apart =
-    subst (IsDistinct bytes_eq) (sym (map-less unsettled id_of (settled elements) elements (unsettled-settled elements))) apart
+    subst (IsDistinct bytes_eq)
+    (sym (map-less unsettled id_of (settled elements) elements (unsettled-settled elements))) apart
 
 -- ---- what holds of the settled elements
 frames-settled : (elements : List ElementValue) → NameFrames (settled elements) × HaveDistinctGroups (settled elements)
 unfolding settled
 frames-settled elements =
-    let linked = settled_links elements in
-    (NameFrames-grouped (frames_settled linked) (NameFrames-settled linked), HaveDistinctGroups-settled (frames_settled linked))
+    let linked = settled_links elements in (
+      NameFrames-grouped (frames_settled linked) (NameFrames-settled linked),
+      HaveDistinctGroups-settled (frames_settled linked),
+    )
 
 pub settled-are : (elements : List ElementValue) → HaveDistinctIds elements → AreSettled (settled elements)
 settled-are elements apart =
@@ -92,7 +100,9 @@ settled-are elements apart =
     let frames = frames-settled elements in
     record {
       arrows = subst ArrowsAgree same (ArrowsAgree-settled texts distinct);
-      texts = subst TextsAgree same (TextsAgree-settled texts distinct (settled_texts-again (settled elements) (distinct-settled elements apart)));
+      texts =
+          subst TextsAgree same (TextsAgree-settled texts distinct
+          (settled_texts-again (settled elements) (distinct-settled elements apart)));
       one_text = subst HaveOneText same (HaveOneText-settled texts);
       targets = subst NameTargets same (NameTargets-settled texts);
       frames = frames.0;

@@ -31,33 +31,42 @@ use Rattle.view.proofs.InOrder.{in_order-only, in_order-same, in_order-permuted,
 use Rattle.view.proofs.SceneOrder.{scene_order, IsPermutation-in_scene_order, in_scene_order-is}
 
 -- ---- ids that rise
-rise_from_below : (low : Option (List ℕ)) (key : List ℕ) (keys : List (List ℕ)) → ends_rise low (Some key) ≡ true → rise_between (Some key) None keys ≡ true → rise_between low None keys ≡ true
+rise_from_below : (low : Option (List ℕ)) (key : List ℕ) (keys : List (List ℕ)) → ends_rise low (Some key) ≡ true
+    → rise_between (Some key) None keys ≡ true → rise_between low None keys ≡ true
 rise_from_below None key [] h l = refl
 rise_from_below (Some low) key [] h l = refl
 rise_from_below low key (next ∷ keys) h l =
     let p = and_parts (bytes_less key next) (rise_between (Some next) None keys) l in
-    let first = rise_between-ends low (Some next) (key ∷ []) (and_from (ends_rise low (Some key)) (bytes_less key next) h p.0) in
+    let first = rise_between-ends low (Some next) (key ∷ [])
+    (and_from (ends_rise low (Some key)) (bytes_less key next) h p.0) in
     and_from (ends_rise low (Some next)) (rise_between (Some next) None keys) first p.1
 
-filter_rises : (low : Option (List ℕ)) (p : ElementValue → Bool) (es : List ElementValue) → rise_between low None (ids_of es) ≡ true → rise_between low None (ids_of (filter p es)) ≡ true
+filter_rises : (low : Option (List ℕ)) (p : ElementValue → Bool) (es : List ElementValue)
+    → rise_between low None (ids_of es) ≡ true → rise_between low None (ids_of (filter p es)) ≡ true
 filter_rises low p [] h = h
 filter_rises low p (e ∷ es) h =
     let both = and_parts (ends_rise low (Some e.id)) (rise_between (Some e.id) None (ids_of es)) h in
     cond_both (p e) (e ∷ filter p es) (filter p es) (λ kept. rise_between low None (ids_of kept) ≡ true)
-    (λ _. and_from (ends_rise low (Some e.id)) (rise_between (Some e.id) None (ids_of (filter p es))) both.0 (filter_rises (Some e.id) p es both.1))
+    (λ _. and_from (ends_rise low (Some e.id)) (rise_between (Some e.id) None (ids_of (filter p es))) both.0
+    (filter_rises (Some e.id) p es both.1))
     (λ _. filter_rises low p es (rise_from_below low e.id (ids_of es) both.0 both.1))
 
-pub live_elements-rise : (stored : List ElementValue) → are_rising (ids_of stored) ≡ true → are_rising (ids_of (live_elements stored)) ≡ true
+pub live_elements-rise : (stored : List ElementValue) → are_rising (ids_of stored) ≡ true
+    → are_rising (ids_of (live_elements stored)) ≡ true
 live_elements-rise stored h = filter_rises None is_live stored h
 
-apart_from_below : (key : List ℕ) (keys : List (List ℕ)) → list_all (lies_between (Some key) None) keys ≡ true → AllByRecursion (λ other. bytes_eq key other ≡ false) keys
+apart_from_below : (key : List ℕ) (keys : List (List ℕ)) → list_all (lies_between (Some key) None) keys ≡ true
+    → AllByRecursion (λ other. bytes_eq key other ≡ false) keys
 apart_from_below key [] h = tt
 apart_from_below key (other ∷ keys) h =
     let p = and_parts (lies_between (Some key) None other) (list_all (lies_between (Some key) None) keys) h in
-    let less = (and_parts (bytes_less key other) true p.0).0 in
-    (false_from_ne_true (bytes_eq key other) (λ same. less-other key other less ((bytes_eq-Decides key other).0 same)), apart_from_below key keys p.1)
+    let less = (and_parts (bytes_less key other) true p.0).0 in (
+      false_from_ne_true (bytes_eq key other) (λ same. less-other key other less ((bytes_eq-Decides key other).0 same)),
+      apart_from_below key keys p.1,
+    )
 
-distinct_from_rising : (low : Option (List ℕ)) (keys : List (List ℕ)) → rise_between low None keys ≡ true → IsDistinct bytes_eq keys
+distinct_from_rising : (low : Option (List ℕ)) (keys : List (List ℕ)) → rise_between low None keys ≡ true
+    → IsDistinct bytes_eq keys
 unfolding IsDistinct
 distinct_from_rising low [] h = tt
 distinct_from_rising low (key ∷ keys) h =
@@ -67,27 +76,32 @@ distinct_from_rising low (key ∷ keys) h =
 pub HaveDistinctIds-rising : (es : List ElementValue) → are_rising (ids_of es) ≡ true → HaveDistinctIds es
 HaveDistinctIds-rising es h = distinct_from_rising None (ids_of es) h
 
-pub live-distinct : (stored live : List ElementValue) → live ≡ live_elements stored → are_rising (ids_of stored) ≡ true → HaveDistinctIds live
+pub live-distinct : (stored live : List ElementValue) → live ≡ live_elements stored → are_rising (ids_of stored) ≡ true
+    → HaveDistinctIds live
 live-distinct stored live is h = rw is (HaveDistinctIds-rising (live_elements stored) (live_elements-rise stored h))
 
 -- ---- elements with new keys
-ids_of-keyed : (es : List ElementValue) (keys : List (List ℕ)) → length keys ≡ length es → ids_of (keyed es keys) ≡ ids_of es
+ids_of-keyed : (es : List ElementValue) (keys : List (List ℕ)) → length keys ≡ length es
+    → ids_of (keyed es keys) ≡ ids_of es
 ids_of-keyed [] keys h = refl
 ids_of-keyed (e ∷ es) [] h = absurd (omega arith)
 ids_of-keyed (e ∷ es) (key ∷ keys) h = ap (λ ids. e.id ∷ ids) (ids_of-keyed es keys (omega arith))
 
-indices-keyed : (es : List ElementValue) (keys : List (List ℕ)) → length keys ≡ length es → map index_of (keyed es keys) ≡ map Some keys
+indices-keyed : (es : List ElementValue) (keys : List (List ℕ)) → length keys ≡ length es
+    → map index_of (keyed es keys) ≡ map Some keys
 indices-keyed [] [] h = refl
 indices-keyed [] (key ∷ keys) h = absurd (omega arith)
 indices-keyed (e ∷ es) [] h = absurd (omega arith)
 indices-keyed (e ∷ es) (key ∷ keys) h = ap (λ indices. Some key ∷ indices) (indices-keyed es keys (omega arith))
 
-others-keyed : (es : List ElementValue) (keys : List (List ℕ)) → length keys ≡ length es → map without_index (keyed es keys) ≡ map without_index es
+others-keyed : (es : List ElementValue) (keys : List (List ℕ)) → length keys ≡ length es
+    → map without_index (keyed es keys) ≡ map without_index es
 others-keyed [] keys h = refl
 others-keyed (e ∷ es) [] h = absurd (omega arith)
 others-keyed (e ∷ es) (key ∷ keys) h = ap (λ others. without_index e ∷ others) (others-keyed es keys (omega arith))
 
-live-keyed : (es : List ElementValue) (keys : List (List ℕ)) → list_all is_live es ≡ true → list_all is_live (keyed es keys) ≡ true
+live-keyed : (es : List ElementValue) (keys : List (List ℕ)) → list_all is_live es ≡ true
+    → list_all is_live (keyed es keys) ≡ true
 live-keyed [] keys h = refl
 live-keyed (e ∷ es) [] h = refl
 live-keyed (e ∷ es) (key ∷ keys) h =
@@ -95,29 +109,38 @@ live-keyed (e ∷ es) (key ∷ keys) h =
     and_from (is_live e) (list_all is_live (keyed es keys)) p.0 (live-keyed es keys p.1)
 
 -- ---- elements whose keys rise are in scene order
-list_all-permuted : {X : Type 0} (p : X → Bool) (xs ys : List X) → IsPermutation xs ys → list_all p xs ≡ true → list_all p ys ≡ true
-list_all-permuted p xs ys moved h = list_all-from_AllPass p ys (All-permutation (λ x. p x ≡ true) xs ys moved (AllPass-from_list_all p xs h))
+list_all-permuted : {X : Type 0} (p : X → Bool) (xs ys : List X) → IsPermutation xs ys → list_all p xs ≡ true
+    → list_all p ys ≡ true
+list_all-permuted p xs ys moved h =
+    list_all-from_AllPass p ys (All-permutation (λ x. p x ≡ true) xs ys moved (AllPass-from_list_all p xs h))
 
-before_by_keys : (e f : ElementValue) (key other : List ℕ) → e.index ≡ Some key → f.index ≡ Some other → bytes_less key other ≡ true → comes_before e f ≡ true
+before_by_keys : (e f : ElementValue) (key other : List ℕ) → e.index ≡ Some key → f.index ≡ Some other
+    → bytes_less key other ≡ true → comes_before e f ≡ true
 before_by_keys e f key other first second less =
-    subst₂ (λ a b. place_less a e.id b f.id ≡ true) (sym first) (sym second) (or_left (bytes_less key other) (bytes_eq key other && bytes_less e.id f.id) less)
+    subst₂ (λ a b. place_less a e.id b f.id ≡ true) (sym first) (sym second)
+    (or_left (bytes_less key other) (bytes_eq key other && bytes_less e.id f.id) less)
 
-all_before : (e : ElementValue) (key : List ℕ) (es : List ElementValue) (keys : List (List ℕ)) → e.index ≡ Some key → map index_of es ≡ map Some keys
+all_before : (e : ElementValue) (key : List ℕ) (es : List ElementValue) (keys : List (List ℕ)) → e.index ≡ Some key
+    → map index_of es ≡ map Some keys
     → list_all (lies_between (Some key) None) keys ≡ true → AllByRecursion (λ f. comes_before e f ≡ true) es
 all_before e key [] keys first is above = tt
 all_before e key (f ∷ fs) [] first is above = cc
 all_before e key (f ∷ fs) (other ∷ keys) first is above =
-    let p = and_parts (lies_between (Some key) None other) (list_all (lies_between (Some key) None) keys) above in
-    (before_by_keys e f key other first (cc) (and_parts (bytes_less key other) true p.0).0, all_before e key fs keys first (cc) p.1)
+    let p = and_parts (lies_between (Some key) None other) (list_all (lies_between (Some key) None) keys) above in (
+      before_by_keys e f key other first (cc) (and_parts (bytes_less key other) true p.0).0,
+      all_before e key fs keys first (cc) p.1,
+    )
 
-order_from_keys : (low : Option (List ℕ)) (es : List ElementValue) (keys : List (List ℕ)) → map index_of es ≡ map Some keys → rise_between low None keys ≡ true → AreInSceneOrder es
+order_from_keys : (low : Option (List ℕ)) (es : List ElementValue) (keys : List (List ℕ))
+    → map index_of es ≡ map Some keys → rise_between low None keys ≡ true → AreInSceneOrder es
 order_from_keys low [] keys is rise = λ i j d l m. absurd (omega arith)
 order_from_keys low (e ∷ es) [] is rise = cc
 order_from_keys low (e ∷ es) (key ∷ keys) is rise =
     let p = and_parts _ (rise_between (Some key) None keys) rise in
     let P : ElementValue → Type 0 = λ f. comes_before e f ≡ true in
     let above = all_before e key es keys (cc) (cc) (lies_between-risen (Some key) None keys p.1) in
-    AllPairs-cons (λ e f. comes_before e f ≡ true) e es (All-from_recursion P es above) (order_from_keys (Some key) es keys (cc) p.1)
+    AllPairs-cons (λ e f. comes_before e f ≡ true) e es (All-from_recursion P es above)
+    (order_from_keys (Some key) es keys (cc) p.1)
 
 pub AreInSceneOrder-from_keys : (es : List ElementValue) → HaveRisingKeys es → AreInSceneOrder es
 AreInSceneOrder-from_keys es h = order_from_keys None es h.keys h.each h.rise
@@ -127,7 +150,8 @@ keys_of_live : (live : List ElementValue) → HaveKeysOrNone live
     → AreBetween None None (length (map index_of (in_scene_order live))) (repaired (map index_of (in_scene_order live)))
 keys_of_live live h =
     repaired-law (map index_of (in_scene_order live))
-    (list_all-permuted is_key_or_none (map index_of live) (map index_of (in_scene_order live)) (IsPermutation-map index_of live (in_scene_order live) (IsPermutation-in_scene_order live)) h)
+    (list_all-permuted is_key_or_none (map index_of live) (map index_of (in_scene_order live))
+    (IsPermutation-map index_of live (in_scene_order live) (IsPermutation-in_scene_order live)) h)
 
 record IsPlaced (live elements : List ElementValue) : Type 0 where
   pub keys : HaveRisingKeys elements
@@ -147,21 +171,27 @@ placed-is live h =
     record {
       keys = record { keys = keys; each = indices-keyed ordered keys count; rise = are.rise };
       along = ids_of-keyed ordered keys count;
-      ids = subst (IsPermutation (ids_of live)) (sym (ids_of-keyed ordered keys count)) (IsPermutation-map (λ (e : ElementValue). e.id) live ordered moved);
-      others = subst (IsPermutation (map without_index live)) (sym (others-keyed ordered keys count)) (IsPermutation-map without_index live ordered moved);
+      ids = subst (IsPermutation (ids_of live)) (sym (ids_of-keyed ordered keys count))
+          (IsPermutation-map (λ (e : ElementValue). e.id) live ordered moved);
+      others = subst (IsPermutation (map without_index live)) (sym (others-keyed ordered keys count))
+          (IsPermutation-map without_index live ordered moved);
       stay_live = λ all. live-keyed ordered keys (list_all-permuted is_live live ordered moved all);
     }
 
 -- ---- the order of the elements plays no part
-placed-permuted : (live others : List ElementValue) → HaveDistinctIds live → IsPermutation live others → placed others ≡ placed live
+placed-permuted : (live others : List ElementValue) → HaveDistinctIds live → IsPermutation live others
+    → placed others ≡ placed live
 unfolding placed
-placed-permuted live others apart moved = ap (λ ordered. keyed ordered (repaired (map index_of ordered))) (in_order-permuted scene_order live others apart moved)
+placed-permuted live others apart moved =
+    ap (λ ordered. keyed ordered (repaired (map index_of ordered)))
+    (in_order-permuted scene_order live others apart moved)
 
 -- ---- elements that are placed stay in their places
 placed-rising : (es : List ElementValue) → HaveDistinctIds es → HaveRisingKeys es → placed es ≡ es
 unfolding placed
 placed-rising es apart h =
-    let sorted : in_scene_order es ≡ es = sym (in_order-only scene_order es es apart (IsPermutation-refl es) (AreInSceneOrder-from_keys es h)) in
+    let sorted : in_scene_order es ≡ es =
+    sym (in_order-only scene_order es es apart (IsPermutation-refl es) (AreInSceneOrder-from_keys es h)) in
     ap (λ ordered. keyed ordered (repaired (map index_of ordered))) sorted ∙ keyed-rising es h
 
 all_pass : {X : Type 0} (p : X → Bool) (xs : List X) → list_all p xs ≡ true → filter p xs ≡ xs
@@ -171,7 +201,9 @@ all_pass p (x ∷ xs) h =
     cond-true (p x) (x ∷ filter p xs) (filter p xs) both.0 ∙ ap (λ ys. x ∷ ys) (all_pass p xs both.1)
 
 -- the live ones of elements that came in scene order
-pub given-ordered : (stored given : List ElementValue) → HaveDistinctIds (live_elements stored) → ((e : ElementValue) → Contains given e → Contains stored e) → ((e : ElementValue) → Contains stored e → Contains given e)
+pub given-ordered : (stored given : List ElementValue) → HaveDistinctIds (live_elements stored)
+    → ((e : ElementValue) → Contains given e → Contains stored e)
+    → ((e : ElementValue) → Contains stored e → Contains given e)
     → AreInSceneOrder given → filter is_live given ≡ in_scene_order (live_elements stored)
 given-ordered stored given apart to back h =
     in_order-same scene_order (live_elements stored) (filter is_live given) apart
@@ -185,7 +217,8 @@ list_all-of p [] = refl
 list_all-of p (x ∷ xs) = ap (λ b. p x && b) (list_all-of p xs)
 
 -- what settling leaves as it is is the same of what is shown and of what was placed
-same_part : {A : Type 0} (part : ElementValue → A) (live : List ElementValue) → map (λ e. part (unsettled e)) (shown live) ≡ map (λ e. part (unsettled e)) (placed live)
+same_part : {A : Type 0} (part : ElementValue → A) (live : List ElementValue)
+    → map (λ e. part (unsettled e)) (shown live) ≡ map (λ e. part (unsettled e)) (placed live)
 unfolding shown
 same_part part live = map-less unsettled part (settled (placed live)) (placed live) (unsettled-settled (placed live))
 
@@ -208,47 +241,63 @@ shown-is live h =
     record {
       along = ids ∙ is.along;
       ids = subst (IsPermutation (ids_of live)) (sym ids) is.ids;
-      others = subst₂ IsPermutation (map-map unsettled without_index live) (map-map unsettled without_index (placed live) ∙ sym (same_part without_index live)) others;
-      stay_live = λ all. list_all-of is_live (shown live) ∙ (ap (list_all (λ (b : Bool). b)) (same_part is_live live) ∙ (sym (list_all-of is_live (placed live)) ∙ is.stay_live all));
+      others = subst₂ IsPermutation (map-map unsettled without_index live)
+          (map-map unsettled without_index (placed live) ∙ sym (same_part without_index live)) others;
+      stay_live = λ all. list_all-of is_live (shown live) ∙ (ap (list_all (λ (b : Bool). b)) (same_part is_live live)
+          ∙ (sym (list_all-of is_live (placed live)) ∙ is.stay_live all));
     }
 
-pub keyed-distinct : (es : List ElementValue) → HaveDistinctIds es → HaveKeysOrNone es → HaveDistinctIds (keyed es (repaired (map index_of es)))
+pub keyed-distinct : (es : List ElementValue) → HaveDistinctIds es → HaveKeysOrNone es
+    → HaveDistinctIds (keyed es (repaired (map index_of es)))
 keyed-distinct es apart h =
-    subst (IsDistinct bytes_eq) (sym (ids_of-keyed es (repaired (map index_of es)) ((repaired-law (map index_of es) h).count ∙ length-map es index_of))) apart
+    subst (IsDistinct bytes_eq)
+    (sym (ids_of-keyed es (repaired (map index_of es)) ((repaired-law (map index_of es) h).count
+    ∙ length-map es index_of))) apart
 
 -- what is shown of the elements, where they stand in scene order
-pub shown-ordered : (live ordered : List ElementValue) → ordered ≡ in_scene_order live → settled (keyed ordered (repaired (map index_of ordered))) ≡ shown live
+pub shown-ordered : (live ordered : List ElementValue) → ordered ≡ in_scene_order live
+    → settled (keyed ordered (repaired (map index_of ordered))) ≡ shown live
 unfolding shown placed
 shown-ordered live ordered h = ap (λ es. settled (keyed es (repaired (map index_of es)))) h
 
-pub ordered-distinct : (live ordered : List ElementValue) → ordered ≡ in_scene_order live → HaveDistinctIds live → HaveDistinctIds ordered
-ordered-distinct live ordered h apart = rw h (HaveDistinctIds-permuted live (in_scene_order live) (IsPermutation-in_scene_order live) apart)
+pub ordered-distinct : (live ordered : List ElementValue) → ordered ≡ in_scene_order live → HaveDistinctIds live
+    → HaveDistinctIds ordered
+ordered-distinct live ordered h apart =
+    rw h (HaveDistinctIds-permuted live (in_scene_order live) (IsPermutation-in_scene_order live) apart)
 
-pub placed-distinct : (live : List ElementValue) → HaveDistinctIds live → HaveKeysOrNone live → HaveDistinctIds (placed live)
+pub placed-distinct : (live : List ElementValue) → HaveDistinctIds live → HaveKeysOrNone live
+    → HaveDistinctIds (placed live)
 placed-distinct live apart h =
-    IsDistinct-IsPermutation bytes_eq nat_list_eq_equiv.symm (ids_of live) (ids_of (placed live)) (placed-is live h).ids apart
+    IsDistinct-IsPermutation bytes_eq nat_list_eq_equiv.symm (ids_of live) (ids_of (placed live)) (placed-is live h).ids
+    apart
 
 pub shown-settled : (live : List ElementValue) → HaveDistinctIds live → HaveKeysOrNone live → AreSettled (shown live)
 unfolding shown
 shown-settled live apart h = settled-are (placed live) (placed-distinct live apart h)
 
 -- ---- the order of the elements plays no part
-pub shown-permuted : (live others : List ElementValue) → HaveDistinctIds live → IsPermutation live others → shown others ≡ shown live
+pub shown-permuted : (live others : List ElementValue) → HaveDistinctIds live → IsPermutation live others
+    → shown others ≡ shown live
 unfolding shown
 shown-permuted live others apart moved = ap settled (placed-permuted live others apart moved)
 
 -- ---- the view of a view is that view
-shown-shown : (live : List ElementValue) → HaveDistinctIds live → HaveKeysOrNone live → HaveDistinctIds (shown live) → shown (shown live) ≡ shown live
+shown-shown : (live : List ElementValue) → HaveDistinctIds live → HaveKeysOrNone live → HaveDistinctIds (shown live)
+    → shown (shown live) ≡ shown live
 unfolding shown
 shown-shown live apart h distinct =
-    ap settled (placed-rising (shown live) distinct (shown-keys live h)) ∙ settled-again (placed live) (placed-distinct live apart h)
+    ap settled (placed-rising (shown live) distinct (shown-keys live h))
+    ∙ settled-again (placed live) (placed-distinct live apart h)
 
-pub shown-again : (live others : List ElementValue) → HaveDistinctIds live → HaveKeysOrNone live → list_all is_live live ≡ true → IsPermutation (shown live) others
+pub shown-again : (live others : List ElementValue) → HaveDistinctIds live → HaveKeysOrNone live
+    → list_all is_live live ≡ true → IsPermutation (shown live) others
     → shown (live_elements others) ≡ shown live
 shown-again live others apart h all moved =
     let is = shown-is live h in
-    let distinct : HaveDistinctIds (shown live) = IsDistinct-IsPermutation bytes_eq nat_list_eq_equiv.symm (ids_of live) (ids_of (shown live)) is.ids apart in
-    let passed : live_elements others ≡ others = all_pass is_live others (list_all-permuted is_live (shown live) others moved (is.stay_live all)) in
+    let distinct : HaveDistinctIds (shown live) =
+    IsDistinct-IsPermutation bytes_eq nat_list_eq_equiv.symm (ids_of live) (ids_of (shown live)) is.ids apart in
+    let passed : live_elements others ≡ others =
+    all_pass is_live others (list_all-permuted is_live (shown live) others moved (is.stay_live all)) in
     ap shown passed ∙ (shown-permuted (shown live) others distinct moved ∙ shown-shown live apart h distinct)
 
 -- ---- for the code
@@ -278,15 +327,23 @@ module _ (stored : List ElementValue) (i : ℕ) (e : ElementValue) (at' : Some e
   one_more : live_elements (take (i + 1) stored) ≡ live_elements (take i stored) ++ cond (is_live e) (e ∷ []) []
   one_more =
       let there : get_or stored i e ≡ e = get_or_from_slice_get stored i e e (sym at') in
-      filter_more is_live stored i e (slice_get_within stored i e (sym at')) ∙ ap (λ (f : ElementValue). live_elements (take i stored) ++ cond (is_live f) (f ∷ []) []) there
+      filter_more is_live stored i e (slice_get_within stored i e (sym at'))
+      ∙ ap (λ (f : ElementValue). live_elements (take i stored) ++ cond (is_live f) (f ∷ []) []) there
 
-  pub live_one : (live new : List ElementValue) (copy : ElementValue) → is_live e ≡ true → live ≡ live_elements (take i stored) → copy ≡ e → new ≡ live ++ copy ∷ [] → new ≡ live_elements (take (i + 1) stored)
+  pub live_one : (live new : List ElementValue) (copy : ElementValue) → is_live e ≡ true
+      → live ≡ live_elements (take i stored) → copy ≡ e → new ≡ live ++ copy ∷ []
+      → new ≡ live_elements (take (i + 1) stored)
   live_one live new copy h so_far same pushed =
-      pushed ∙ (ap₂ (λ ls (l : ElementValue). ls ++ l ∷ []) so_far same ∙ (ap (λ more. live_elements (take i stored) ++ more) (sym (cond-true (is_live e) (e ∷ []) [] h)) ∙ sym one_more))
+      pushed ∙ (ap₂ (λ ls (l : ElementValue). ls ++ l ∷ []) so_far same
+      ∙ (ap (λ more. live_elements (take i stored) ++ more) (sym (cond-true (is_live e) (e ∷ []) [] h))
+      ∙ sym one_more))
 
-  pub deleted_one : (live : List ElementValue) → is_live e ≡ false → live ≡ live_elements (take i stored) → live ≡ live_elements (take (i + 1) stored)
+  pub deleted_one : (live : List ElementValue) → is_live e ≡ false → live ≡ live_elements (take i stored)
+      → live ≡ live_elements (take (i + 1) stored)
   deleted_one live h so_far =
-      so_far ∙ (sym (append-nil (live_elements (take i stored))) ∙ (ap (λ more. live_elements (take i stored) ++ more) (sym (cond-false (is_live e) (e ∷ []) [] h)) ∙ sym one_more))
+      so_far ∙ (sym (append-nil (live_elements (take i stored)))
+      ∙ (ap (λ more. live_elements (take i stored) ++ more) (sym (cond-false (is_live e) (e ∷ []) [] h))
+      ∙ sym one_more))
 
 pub within_stored : (stored : List ElementValue) (i : ℕ) → i < length stored → None ≡ slice_get stored i → ⊥
 within_stored [] i l h = absurd (omega arith)
@@ -300,4 +357,5 @@ live_elements-live stored = list_all-from_AllPass is_live (live_elements stored)
 pub keys-placed : (live : List ElementValue) → HaveKeysOrNone (in_scene_order live) → HaveKeysOrNone live
 keys-placed live h =
     let moved = IsPermutation-map index_of live (in_scene_order live) (IsPermutation-in_scene_order live) in
-    list_all-permuted is_key_or_none (map index_of (in_scene_order live)) (map index_of live) (IsPermutation-sym _ _ moved) h
+    list_all-permuted is_key_or_none (map index_of (in_scene_order live)) (map index_of live)
+    (IsPermutation-sym _ _ moved) h

@@ -14,22 +14,29 @@ use Rattle.elem_store.specs.Updates.{ids_of}
 use Rattle.view.specs.inner.Spots.{elements_of, indices_of, AreSpotsIn, IsSpotIn}
 use Rattle.view.specs.declared.order.Spot.{Spot}
 
-pub stored-at : (stored : List ElementValue) (spots : List Spot) → AreSpotsIn stored spots → filter_map (slice_get stored) (indices_of spots) ≡ elements_of spots
+pub stored-at : (stored : List ElementValue) (spots : List Spot) → AreSpotsIn stored spots
+    → filter_map (slice_get stored) (indices_of spots) ≡ elements_of spots
 stored-at stored [] h = refl
-stored-at stored (spot ∷ spots) h = ap₂ cons_option (All-head (IsSpotIn stored) spot spots h) (stored-at stored spots (All-tail (IsSpotIn stored) spot spots h))
+stored-at stored (spot ∷ spots) h = ap₂ cons_option (All-head (IsSpotIn stored) spot spots h)
+    (stored-at stored spots (All-tail (IsSpotIn stored) spot spots h))
 
 abbrev id_at : List ElementValue → ℕ → List ℕ
 id_at stored i = option_map_or (λ (e : ElementValue). e.id) (slice_get stored i) []
 
-ids-at : (stored : List ElementValue) (spots : List Spot) → AreSpotsIn stored spots → map (id_at stored) (indices_of spots) ≡ ids_of (elements_of spots)
+ids-at : (stored : List ElementValue) (spots : List Spot) → AreSpotsIn stored spots
+    → map (id_at stored) (indices_of spots) ≡ ids_of (elements_of spots)
 ids-at stored [] h = refl
 ids-at stored (spot ∷ spots) h =
-    ap₂ (λ id ids. id ∷ ids) (ap (λ found. option_map_or (λ (e : ElementValue). e.id) found []) (All-head (IsSpotIn stored) spot spots h))
+    ap₂ (λ id ids. id ∷ ids) (ap (λ found. option_map_or (λ (e : ElementValue). e.id) found [])
+    (All-head (IsSpotIn stored) spot spots h))
     (ids-at stored spots (All-tail (IsSpotIn stored) spot spots h))
 
-pub indices-differ : (stored : List ElementValue) (spots : List Spot) → AreSpotsIn stored spots → HaveDistinctIds (elements_of spots) → AllPairs (λ i j. i ≢ j) (indices_of spots)
+pub indices-differ : (stored : List ElementValue) (spots : List Spot) → AreSpotsIn stored spots
+    → HaveDistinctIds (elements_of spots) → AllPairs (λ i j. i ≢ j) (indices_of spots)
 indices-differ stored spots h apart i j d l m same =
     let id = id_at stored in
     let indices = indices_of spots in
-    AllPairs-from_IsDistinct bytes_eq-Decides (map id indices) (subst (IsDistinct bytes_eq) (sym (ids-at stored spots h)) apart) i j (id d) l (omega (arith, m, length-map indices id))
+    AllPairs-from_IsDistinct bytes_eq-Decides (map id indices)
+    (subst (IsDistinct bytes_eq) (sym (ids-at stored spots h)) apart) i j (id d) l
+    (omega (arith, m, length-map indices id))
     (get_or-map id indices i d ∙ ap id same ∙ sym (get_or-map id indices j d))

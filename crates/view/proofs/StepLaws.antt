@@ -1,4 +1,5 @@
--- What settling makes of one element rests on the elements at most three steps of links from it, on its frame, and on no key.
+-- What settling makes of one element rests on the elements at most three steps of links from it, on its frame, and on
+-- no key.
 use Rattle.std.proofs.Common.{◌≡◌, ℕ, Bool, true, false, cond, List, find, filter, map, Option, Some, None, Contains, refl, sym, ap, ap₂, ◌∙◌}
 use Rattle.std.specs.List.{list_any}
 use Rattle.std.specs.Option.{option_map, option_map_or}
@@ -20,23 +21,31 @@ use Rattle.view.specs.Steps.{is_framed, settled_of, settled_but_for_key, AreAlik
 use Rattle.view.proofs.SettledLaws.{same_elements}
 
 -- ---- keys play no part
-links-keys : (list : List ElementValue) → settled_links (map without_index list) ≡ map without_index (settled_links list)
+links-keys : (list : List ElementValue) → settled_links (map without_index list)
+    ≡ map without_index (settled_links list)
 links-keys list =
     same_elements (settled_links (map without_index list)) (map without_index (settled_links list))
-    (sym (links-unplaced (map without_index list)) ∙ ap settled_links (map-map unplaced without_index list) ∙ links-unplaced list
+    (sym (links-unplaced (map without_index list)) ∙ ap settled_links (map-map unplaced without_index list)
+    ∙ links-unplaced list
     ∙ sym (map-map unplaced without_index (settled_links list)))
-    (unlinked-links (map without_index list) ∙ map-map unlinked without_index list ∙ sym (map-map without_index unlinked list)
-    ∙ ap (map without_index) (sym (unlinked-links list)) ∙ map-map without_index unlinked (settled_links list) ∙ sym (map-map unlinked without_index (settled_links list)))
+    (unlinked-links (map without_index list) ∙ map-map unlinked without_index list
+    ∙ sym (map-map without_index unlinked list)
+    ∙ ap (map without_index) (sym (unlinked-links list)) ∙ map-map without_index unlinked (settled_links list)
+    ∙ sym (map-map unlinked without_index (settled_links list)))
 
-framed-keys : (names : List ℕ → Bool) (e : ElementValue) → framed names (without_index e) ≡ without_index (framed names e)
+framed-keys : (names : List ℕ → Bool) (e : ElementValue)
+    → framed names (without_index e) ≡ without_index (framed names e)
 framed-keys names e = either (keeps_frame names e) where
-  either : (b : Bool) → cond b (without_index e) (without_frame (without_index e)) ≡ without_index (cond b e (without_frame e))
+  either : (b : Bool) → cond b (without_index e) (without_frame (without_index e))
+      ≡ without_index (cond b e (without_frame e))
   either true = refl
   either false = refl
 
-frames-keys : (list : List ElementValue) → frames_settled (map without_index list) ≡ map without_index (frames_settled list)
+frames-keys : (list : List ElementValue) → frames_settled (map without_index list)
+    ≡ map without_index (frames_settled list)
 frames-keys list =
-    ap (λ names. map (framed names) (map without_index list)) (λ i id. list_any-map without_index (is_frame_of id) list i)
+    ap (λ names. map (framed names) (map without_index list))
+    (λ i id. list_any-map without_index (is_frame_of id) list i)
     ∙ map-map (framed (has_frame list)) without_index list
     ∙ (λ i. map (λ e. framed-keys (has_frame list) e i) list)
     ∙ sym (map-map without_index (framed (has_frame list)) list)
@@ -44,13 +53,16 @@ frames-keys list =
 pub settled-keys : (list : List ElementValue) → settled (map without_index list) ≡ map without_index (settled list)
 unfolding settled
 settled-keys list =
-    ap (λ es. groups_settled (frames_settled es)) (links-keys list) ∙ ap groups_settled (frames-keys (settled_links list))
-    ∙ map-map grouped without_index (frames_settled (settled_links list)) ∙ sym (map-map without_index grouped (frames_settled (settled_links list)))
+    ap (λ es. groups_settled (frames_settled es)) (links-keys list)
+    ∙ ap groups_settled (frames-keys (settled_links list))
+    ∙ map-map grouped without_index (frames_settled (settled_links list))
+    ∙ sym (map-map without_index grouped (frames_settled (settled_links list)))
 
 -- ---- some of the elements
 frames-linked : (list : List ElementValue) (id : List ℕ) → has_frame (settled_links list) id ≡ has_frame list id
 frames-linked list id =
-    sym (list_any-map unlinked (is_frame_of id) (settled_links list)) ∙ ap (list_any (is_frame_of id)) (unlinked-links list) ∙ list_any-map unlinked (is_frame_of id) list
+    sym (list_any-map unlinked (is_frame_of id) (settled_links list))
+    ∙ ap (list_any (is_frame_of id)) (unlinked-links list) ∙ list_any-map unlinked (is_frame_of id) list
 
 -- the element of an id after links, and after frames and groups too
 framed_of : (names : List ℕ → Bool) (id : List ℕ) (e : ElementValue) → has_id id (framed names e) ≡ has_id id e
@@ -59,18 +71,23 @@ framed_of names id e = either (keeps_frame names e) where
   either true = refl
   either false = refl
 
-found-framed : (list : List ElementValue) (id : List ℕ) → element_of (groups_settled (frames_settled list)) id ≡ option_map grouped (option_map (framed (has_frame list)) (element_of list id))
+found-framed : (list : List ElementValue) (id : List ℕ) → element_of (groups_settled (frames_settled list)) id
+    ≡ option_map grouped (option_map (framed (has_frame list)) (element_of list id))
 found-framed list id =
     find-map (has_id id) grouped (frames_settled list)
-    ∙ ap (option_map grouped) (find-map (has_id id) (framed (has_frame list)) list ∙ ap (option_map (framed (has_frame list))) (λ i. find (λ e. framed_of (has_frame list) id e i) list))
+    ∙ ap (option_map grouped) (find-map (has_id id) (framed (has_frame list)) list
+    ∙ ap (option_map (framed (has_frame list))) (λ i. find (λ e. framed_of (has_frame list) id e i) list))
 
-module _ (list : List ElementValue) (among : ElementValue → Bool) (id : List ℕ) (distinct : HaveDistinctIds list) (has_near : HasAllNear among list id) where
+module _ (list : List ElementValue) (among : ElementValue → Bool) (id : List ℕ) (distinct : HaveDistinctIds list)
+    (has_near : HasAllNear among list id) where
   all_near : (e : ElementValue) → Contains list e → is_within 3 list id e ≡ true → among e ≡ true
   all_near = near-all list among id has_near.linked
 
   framed-near : (o : Option ElementValue) → find (has_id id) list ≡ o
-      → option_map (framed (has_frame (settled_links (filter among list)))) (option_map (λ e. with_settled_links (settled_texts list) (with_settled_container list e)) o)
-      ≡ option_map (framed (has_frame (settled_links list))) (option_map (λ e. with_settled_links (settled_texts list) (with_settled_container list e)) o)
+      → option_map (framed (has_frame (settled_links (filter among list))))
+      (option_map (λ e. with_settled_links (settled_texts list) (with_settled_container list e)) o)
+      ≡ option_map (framed (has_frame (settled_links list)))
+      (option_map (λ e. with_settled_links (settled_texts list) (with_settled_container list e)) o)
   framed-near None is = refl
   framed-near (Some e) is =
       let y = with_settled_links (settled_texts list) (with_settled_container list e) in
@@ -103,7 +120,8 @@ framed_all keeps o = option_map grouped (option_map (framed_if keeps) o)
 abbrev linked_but_for_key : List ElementValue → List ℕ → Option ElementValue
 linked_but_for_key list id = option_map without_index (find (has_id id) (settled_links list))
 
-module _ (list : List ElementValue) (among : ElementValue → Bool) (id : List ℕ) (distinct : HaveDistinctIds list) (has_linked : HasAllLinked among list id) where
+module _ (list : List ElementValue) (among : ElementValue → Bool) (id : List ℕ) (distinct : HaveDistinctIds list)
+    (has_linked : HasAllLinked among list id) where
   linked_near : (e : ElementValue) → Contains list e → is_within 3 list id e ≡ true → among e ≡ true
   linked_near = near-all list among id has_linked
 
@@ -115,31 +133,40 @@ module _ (list : List ElementValue) (among : ElementValue → Bool) (id : List �
 
   -- the frame name is kept as it is before links are settled
   framed-as : (o : Option ElementValue) → find (has_id id) list ≡ o
-      → option_map without_index (option_map grouped (option_map (framed (has_frame (settled_links list))) (option_map (λ e. with_settled_links (settled_texts list) (with_settled_container list e)) o)))
-      ≡ framed_all (is_framed list id) (option_map without_index (option_map (λ e. with_settled_links (settled_texts list) (with_settled_container list e)) o))
+      → option_map without_index (option_map grouped
+      (option_map (framed (has_frame (settled_links list)))
+      (option_map (λ e. with_settled_links (settled_texts list) (with_settled_container list e)) o)))
+      ≡ framed_all (is_framed list id) (option_map without_index
+      (option_map (λ e. with_settled_links (settled_texts list) (with_settled_container list e)) o))
   framed-as None is = refl
   framed-as (Some e) is =
       let y = with_settled_links (settled_texts list) (with_settled_container list e) in
       ap (λ f. Some (without_index (grouped f))) (λ i. framed (λ fid. frames-linked list fid i) y)
       ∙ kept (keeps_frame (has_frame list) e) y
-      ∙ ap (λ b. Some (grouped (framed_if b (without_index y)))) (ap (λ o. option_map_or (keeps_frame (has_frame list)) o false) (sym is))
+      ∙ ap (λ b. Some (grouped (framed_if b (without_index y))))
+      (ap (λ o. option_map_or (keeps_frame (has_frame list)) o false) (sym is))
     where
-      kept : (b : Bool) (y : ElementValue) → Some (without_index (grouped (cond b y (without_frame y)))) ≡ Some (grouped (framed_if b (without_index y)))
+      kept : (b : Bool) (y : ElementValue) → Some (without_index (grouped (cond b y (without_frame y))))
+          ≡ Some (grouped (framed_if b (without_index y)))
       kept true y = refl
       kept false y = refl
 
-  pub settled-as : settled_but_for_key list id ≡ framed_all (is_framed list id) (find (has_id id) (settled_links (map without_index (filter among list))))
+  pub settled-as : settled_but_for_key list id
+      ≡ framed_all (is_framed list id) (find (has_id id) (settled_links (map without_index (filter among list))))
   unfolding settled
   settled-as =
       let of_list = found-settled list among id distinct linked_near list in
       ap (option_map without_index)
-      (found-framed (settled_links list) id ∙ ap (λ o. option_map grouped (option_map (framed (has_frame (settled_links list))) o)) of_list)
+      (found-framed (settled_links list) id
+      ∙ ap (λ o. option_map grouped (option_map (framed (has_frame (settled_links list))) o)) of_list)
       ∙ framed-as (find (has_id id) list) refl
       ∙ ap (λ o. framed_all (is_framed list id) (option_map without_index o)) (sym of_list)
       ∙ ap (framed_all (is_framed list id)) linked-keys
 
-pub settled-unchanged : (list other : List ElementValue) (among : ElementValue → Bool) (id : List ℕ) → HaveDistinctIds list → HaveDistinctIds other
-    → map without_index (filter among list) ≡ map without_index (filter among other) → HasAllLinked among list id → HasAllLinked among other id
+pub settled-unchanged : (list other : List ElementValue) (among : ElementValue → Bool) (id : List ℕ)
+    → HaveDistinctIds list → HaveDistinctIds other
+    → map without_index (filter among list) ≡ map without_index (filter among other) → HasAllLinked among list id
+    → HasAllLinked among other id
     → is_framed list id ≡ is_framed other id → settled_but_for_key list id ≡ settled_but_for_key other id
 settled-unchanged list other among id distinct apart same has_linked has_linked' framed_alike =
     settled-as list among id distinct has_linked
@@ -147,7 +174,8 @@ settled-unchanged list other among id distinct apart same has_linked has_linked'
     ∙ sym (settled-as other among id apart has_linked')
 
 -- ---- two lists with the same elements near an id, but for their keys
-pub settled-alike : (list other : List ElementValue) (id : List ℕ) → HaveDistinctIds list → HaveDistinctIds other → AreAlikeNear list other id → settled_but_for_key list id ≡ settled_but_for_key other id
+pub settled-alike : (list other : List ElementValue) (id : List ℕ) → HaveDistinctIds list → HaveDistinctIds other
+    → AreAlikeNear list other id → settled_but_for_key list id ≡ settled_but_for_key other id
 settled-alike list other id distinct apart same =
     settled-as list (is_within 3 list id) id distinct (filter_passes (is_within 3 list id) list)
     ∙ ap₂ (λ b es. framed_all b (find (has_id id) (settled_links es))) same.framed same.linked

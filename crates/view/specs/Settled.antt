@@ -1,4 +1,5 @@
--- The rules on texts in containers, bound arrows, frames and groups, over the whole list. This project's own.
+-- The rules on texts in containers, bound arrows, frames and groups, over the whole list. This
+-- project's own.
 use Rattle.std.specs.Prelude.{List, [], None}
 use Rattle.elem.specs.ElementValue.{ElementValue}
 use Rattle.frames_groups.specs.Frames.{frames_settled, NameFrames}
@@ -20,9 +21,10 @@ unsettled e = record e {
   end_binding = None;
 }
 
--- The elements agree on their links, frames and groups: an arrow names an element exactly if that element lists it, and
--- a text a container exactly if the container lists it; an element lists one text at most; each binding names a
--- bindable target, each frame name a frame; and no element has a group twice.
+-- The elements agree on their links, frames and groups: an arrow names an element exactly if that
+-- element lists it, and a text a container exactly if the container lists it; an element lists one
+-- text at most; each binding names a bindable target, each frame name a frame; and no element has a
+-- group twice.
 pub record AreSettled (elements : List ElementValue) : Type 0 where
   pub arrows : ArrowsAgree elements
   pub texts : TextsAgree elements

@@ -1,4 +1,5 @@
--- What a board shows of its stored elements. The order of ids and the repair are this project's own.
+-- What a board shows of its stored elements. The order of ids and the repair are this project's
+-- own.
 use Rattle.std.specs.Prelude.{◌≡◌, ℕ, List, [], ◌∷◌, Bool, true, false, not, ◌&&◌, ◌||◌, Option, Some, None, filter, map, bytes_eq, if◌then◌else◌, AllPairs, IsPermutation}
 use Rattle.std.specs.List.{list_all}
 use Rattle.std.specs.Option.{unwrap_or}
@@ -30,9 +31,11 @@ abbrev pub comes_before : ElementValue → ElementValue → Bool
 comes_before e other = place_less e.index e.id other.index other.id
 
 -- elements in an order and one more, which goes before the first that doesn't come before it
-abbrev pub with_element : (ElementValue → ElementValue → Bool) → ElementValue → List ElementValue → List ElementValue
+abbrev pub with_element : (ElementValue → ElementValue → Bool) → ElementValue → List ElementValue
+    → List ElementValue
 with_element before e [] = e ∷ []
-with_element before e (other ∷ others) = if before other e then other ∷ with_element before e others else e
+with_element before e (other ∷ others) =
+    if before other e then other ∷ with_element before e others else e
     ∷ other ∷ others
 
 -- the elements in an order
@@ -51,17 +54,20 @@ in_id_order elements = in_order (λ e other. bytes_less e.id other.id) elements
 abbrev pub AreInSceneOrder : List ElementValue → Type 0
 AreInSceneOrder elements = AllPairs (λ e other. comes_before e other ≡ true) elements
 
--- They are the elements in scene order: the one permutation in which each comes before those behind it.
+-- They are the elements in scene order: the one permutation in which each comes before those behind
+-- it.
 pub record IsSceneOrder (elements ordered : List ElementValue) : Type 0 where
   pub moved : IsPermutation elements ordered
   pub in_order : AreInSceneOrder ordered
-  pub only : (others : List ElementValue) → IsPermutation elements others → AreInSceneOrder others → others ≡ ordered
+  pub only : (others : List ElementValue) → IsPermutation elements others → AreInSceneOrder others
+      → others ≡ ordered
 
 -- the live elements in scene order, with repaired keys
 unfoldable pub placed : List ElementValue → List ElementValue
 placed live = let ordered = in_scene_order live in keyed ordered (repaired (map index_of ordered))
 
--- what a board shows of its live elements: they are placed, and then their links, frames and groups are settled
+-- what a board shows of its live elements: they are placed, and then their links, frames and groups
+-- are settled
 unfoldable pub shown : List ElementValue → List ElementValue
 shown live = settled (placed live)
 

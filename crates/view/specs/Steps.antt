@@ -8,13 +8,14 @@ use Rattle.links.specs.Steps.{near}
 use Rattle.view.specs.Settled.{settled}
 use Rattle.view.specs.Shown.{without_index}
 
--- whether the element of an id keeps its frame name in the list: the list has a frame of this name, and the element is
--- none itself
+-- whether the element of an id keeps its frame name in the list: the list has a frame of this name,
+-- and the element is none itself
 abbrev pub is_framed : List ElementValue → List ℕ → Bool
 is_framed list id = option_map_or (keeps_frame (has_frame list)) (element_of list id) false
 
--- The elements of the two lists at most three steps of links from an id are the same but for their keys, and in the
--- same order; and the element of this id keeps its frame name in both lists or in none.
+-- The elements of the two lists at most three steps of links from an id are the same but for their
+-- keys, and in the same order; and the element of this id keeps its frame name in both lists or in
+-- none.
 pub record AreAlikeNear (list other : List ElementValue) (id : List ℕ) : Type 0 where
   pub linked : map without_index (near list id) ≡ map without_index (near other id)
   pub framed : is_framed list id ≡ is_framed other id
@@ -30,9 +31,10 @@ settled_but_for_key list id = option_map without_index (settled_of list id)
 abbrev pub HasAllLinked : (ElementValue → Bool) → List ElementValue → List ℕ → Type 0
 HasAllLinked among list id = All (λ e. IsTrue (among e)) (near list id)
 
--- A test that the elements of the list at most three steps of links from an id pass, and the frame that the element of
--- this id names, if the list has it.
-pub record HasAllNear (among : ElementValue → Bool) (list : List ElementValue) (id : List ℕ) : Type 0 where
+-- A test that the elements of the list at most three steps of links from an id pass, and the frame
+-- that the element of this id names, if the list has it.
+pub record HasAllNear (among : ElementValue → Bool) (list : List ElementValue) (id : List ℕ) :
+    Type 0 where
   pub linked : HasAllLinked among list id
   pub framed : (e frame : ElementValue) → element_of list id ≡ Some e → e.frame ≡ Some frame.id
       → Contains list frame → is_frame frame ≡ true → among frame ≡ true

@@ -37,7 +37,8 @@ pub fn shown_keys_rise()
 
 /// What is shown agrees on its links, frames and groups.
 pub fn shown_elements_are_settled()
-    ensures { (live : List ElementValue) → HaveDistinctIds live → HaveKeysOrNone live → AreSettled (shown live) }
+    ensures { (live : List ElementValue) → HaveDistinctIds live → HaveKeysOrNone live
+        → AreSettled (shown live) }
 {}
 
 /// The view of a view is that view, in whatever order its elements are stored.
@@ -47,15 +48,17 @@ pub fn view_of_a_view_is_that_view()
         → IsPermutation (shown live) stored → shown (live_elements stored) ≡ shown live }
 {}
 
-/// The stamps of elements play no part: lists that are the same but for versions, nonces and times are shown the same
-/// but for these.
+/// The stamps of elements play no part: lists that are the same but for versions, nonces and times
+/// are shown the same but for these.
 pub fn stamps_play_no_part()
     ensures { (live others : List ElementValue)
-        → map unstamped live ≡ map unstamped others → map unstamped (shown live) ≡ map unstamped (shown others) }
+        → map unstamped live ≡ map unstamped others
+        → map unstamped (shown live) ≡ map unstamped (shown others) }
 {}
 
 /// What holds of every element holds of what is shown of elements.
 pub fn shown_elements_are_elements()
     ensures { (live : List ElementValue)
-        → All (λ e. IsElement e × HasValidTexts e) live → All (λ e. IsElement e × HasValidTexts e) (shown live) }
+        → All (λ e. IsElement e × HasValidTexts e) live
+        → All (λ e. IsElement e × HasValidTexts e) (shown live) }
 {}

@@ -1,4 +1,5 @@
-//! What a board shows of its stored elements: the live ones, in scene order, with strictly rising keys.
+//! What a board shows of its stored elements: the live ones, in scene order, with strictly rising
+//! keys.
 #![tactic(auto)]
 
 pub mod laws;

@@ -17,10 +17,12 @@ pub(crate) struct Spot<'a> {
     pub(crate) element: &'a Element,
 }
 
-/// Sorts elements of distinct ids by index, none last, and then by id. The elements themselves stay where they are.
+/// Sorts elements of distinct ids by index, none last, and then by id. The elements themselves stay
+/// where they are.
 pub(crate) fn sort(spots: &mut Vec<Spot<'_>>) -> Result<(), AllocError>
     requires { HaveDistinctIds (elements_of spots.old.items) }
-    ensures sorted { OnOk result (elements_of spots.new.items ≡ in_scene_order (elements_of spots.old.items)) }
+    ensures sorted { OnOk result (elements_of spots.new.items
+        ≡ in_scene_order (elements_of spots.old.items)) }
     ensures permutation { IsPermutation spots.old.items spots.new.items }
 {
     spots.sort_by(|spot, other| scene_order(spot.element, other.element))

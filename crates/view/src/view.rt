@@ -22,7 +22,8 @@ use links::{settle_arrows, settle_texts};
 use std::alloc::{AllocError, Global};
 use std::marker::Model;
 
-/// What a board shows. Contracts see the live elements that it was made of, as stored, in the order of their ids.
+/// What a board shows. Contracts see the live elements that it was made of, as stored, in the
+/// order of their ids.
 ///
 /// Only the elements that aren't shown as they are stored are held twice.
 pub struct View {
@@ -66,8 +67,8 @@ pub fn view_of(alloc: Global, store: &Store) -> Result<View, AllocError>
 }
 
 impl View {
-    /// What is shown: the live elements in scene order, with repaired keys, and with links, frames and groups that
-    /// agree. It takes no memory.
+    /// What is shown: the live elements in scene order, with repaired keys, and with links,
+    /// frames and groups that agree. It takes no memory.
     pub fn elements(&self) -> &[Element]
         ensures exact { result.now ≡ shown self.now }
         ensures keys { HaveRisingKeys result.now }
@@ -85,8 +86,8 @@ impl View {
     }
 }
 
-/// What the view of a store shows, alone: what isn't shown as it is stored isn't held beside it. Fails only for want of
-/// memory.
+/// What the view of a store shows, alone: what isn't shown as it is stored isn't held beside it.
+/// Fails only for want of memory.
 pub fn shown_elements(alloc: Global, store: &Store) -> Result<List<Element>, AllocError>
     ensures exact { IfOk result (λ elements. elements ≡ shown (live_elements store.now.elements)) }
     ensures keys { IfOk result HaveRisingKeys }
@@ -97,8 +98,8 @@ pub fn shown_elements(alloc: Global, store: &Store) -> Result<List<Element>, All
     Ok(elements)
 }
 
-/// The same of a store that is given up: the elements are moved out of it, and the others are dropped. Fails only for
-/// want of memory.
+/// The same of a store that is given up: the elements are moved out of it, and the others are
+/// dropped. Fails only for want of memory.
 pub fn into_shown(alloc: Global, store: Store) -> Result<List<Element>, AllocError>
     ensures exact { IfOk result (λ elements. elements ≡ shown (live_elements store.elements)) }
     ensures keys { IfOk result HaveRisingKeys }
@@ -109,10 +110,11 @@ pub fn into_shown(alloc: Global, store: Store) -> Result<List<Element>, AllocErr
     Ok(elements)
 }
 
-/// The live elements of a store in scene order, moved out of it. Where they came in this order, they are in their
-/// places.
+/// The live elements of a store in scene order, moved out of it. Where they came in this order,
+/// they are in their places.
 fn ordered_of(alloc: Global, store: Store) -> Result<Vec<Element>, AllocError>
-    ensures exact { IfOk result (λ ordered. ordered.items ≡ in_scene_order (live_elements store.elements)) }
+    ensures exact { IfOk result (λ ordered. ordered.items
+        ≡ in_scene_order (live_elements store.elements)) }
     ensures live { IfOk result (λ _. HaveDistinctIds (live_elements store.elements)) }
 {
     if are_in_order(store.given()) {
@@ -156,7 +158,8 @@ fn indices_of(alloc: Global, spots: &Vec<Spot<'_>>) -> Result<Vec<usize>, AllocE
 
 /// The live elements of a store, in the order of their ids.
 fn live_of(alloc: Global, store: &Store) -> Result<Vec<Spot<'_>>, AllocError>
-    ensures exact { IfOk result (λ live. elements_of live.items ≡ live_elements store.now.elements) }
+    ensures exact { IfOk result (λ live. elements_of live.items
+        ≡ live_elements store.now.elements) }
     ensures stored { IfOk result (λ live. AreSpotsIn store.now.elements live.items) }
     ensures ordered { IfOk result (λ _. are_rising (ids_of store.now.elements) ≡ true) }
 {
@@ -189,12 +192,13 @@ fn shown_of(alloc: Global, live: &mut Vec<Spot<'_>>) -> Result<List<Element>, Al
     settled_of(alloc, elements)
 }
 
-/// What is shown of elements in scene order: they get repaired keys, and then texts, arrows, frames and groups are
-/// settled.
+/// What is shown of elements in scene order: they get repaired keys, and then texts, arrows,
+/// frames and groups are settled.
 #[tactic(auto, unfolding(crate::specs::Settled::settled))]
 fn settled_of(alloc: Global, ordered: Vec<Element>) -> Result<List<Element>, AllocError>
     requires { HaveDistinctIds ordered.items }
-    ensures exact { IfOk result (λ new. new ≡ settled (keyed ordered.items (repaired (map index_of ordered.items)))) }
+    ensures exact { IfOk result (λ new. new
+        ≡ settled (keyed ordered.items (repaired (map index_of ordered.items)))) }
     ensures keys { IfOk result (λ _. HaveKeysOrNone ordered.items) }
 {
     let elements = keyed_of(alloc, ordered)?;
@@ -207,7 +211,8 @@ fn settled_of(alloc: Global, ordered: Vec<Element>) -> Result<List<Element>, All
 /// The elements in their order, with repaired keys.
 fn keyed_of(alloc: Global, elements: Vec<Element>) -> Result<List<Element>, AllocError>
     requires { HaveDistinctIds elements.items }
-    ensures exact { IfOk result (λ new. new ≡ keyed elements.items (repaired (map index_of elements.items))) }
+    ensures exact { IfOk result (λ new. new
+        ≡ keyed elements.items (repaired (map index_of elements.items))) }
     ensures distinct { IfOk result HaveDistinctIds }
     ensures keys { IfOk result (λ _. HaveKeysOrNone elements.items) }
 {
@@ -225,8 +230,8 @@ fn copied(alloc: Global, spots: &Vec<Spot<'_>>) -> Result<Vec<Element>, AllocErr
     Ok(elements)
 }
 
-/// The stored elements of those that are shown otherwise than they are stored, copied. The spots tell where each
-/// stands.
+/// The stored elements of those that are shown otherwise than they are stored, copied. The spots
+/// tell where each stands.
 fn originals_of(
     alloc: Global,
     store: &Store,

@@ -53,22 +53,28 @@ order-small row element other one two =
     (picked IsSmall (row == 11) (Frame element other) _ (one, two)
     (picked IsSmall (row == 12) (Group element other) (Delete element) (one, two) one))))))))
 
-chosen : (P : Deed → Type 0) (a b c : Bool) (p q r s : Deed) → P p → P q → P r → P s → P (cond a p (cond b q (cond c r s)))
+chosen : (P : Deed → Type 0) (a b c : Bool) (p q r s : Deed) → P p → P q → P r → P s
+    → P (cond a p (cond b q (cond c r s)))
 chosen P true b c p q r s one two three four = one
 chosen P false true c p q r s one two three four = two
 chosen P false false true p q r s one two three four = three
 chosen P false false false p q r s one two three four = four
 
 -- ---- one event
-pub deed-fine : (number made : ℕ) (draws : Draws) → number < most_drilled → (0 < number → 0 < made) → IsDrawn draws → IsFine made (deed_of number made draws)
+pub deed-fine : (number made : ℕ) (draws : Draws) → number < most_drilled → (0 < number → 0 < made) → IsDrawn draws
+    → IsFine made (deed_of number made draws)
 unfolding deed_of
-deed-fine zero made draws few some within = (within.at, lit≤ tt, order-small 0 draws.element draws.other within.element within.other)
+deed-fine zero made draws few some within =
+    (within.at, lit≤ tt, order-small 0 draws.element draws.other within.element within.other)
 deed-fine (suc number) made draws few some within =
     let row = row_of (suc number) draws in
     let messages : 0 < made = some (omega arith) in
     let soon : suc number + 1 ≤ greatest_whole = omega arith in
     chosen (IsFine made) (nat_le row 13) (row == 14) (row == 15) _ _ _ _
-    (within.at, soon, order-small row draws.element draws.other within.element within.other) (within.at, soon) (within.at, soon)
+    (within.at, soon, order-small row draws.element draws.other within.element within.other) (
+      within.at,
+      soon,
+    ) (within.at, soon)
     (within.at, mod-lt (200 * draws.element + draws.other) messages, omega arith)
 
 pub messages-same : (deed : Deed) → sessions.messages_of (event_of deed) ≡ messages_of deed
@@ -103,8 +109,10 @@ counted seed (suc number) =
       long = omega (arith, length-append c.deeds (deed ∷ []), before.long);
       few = omega (arith, before.few, messages-few deed);
       some = λ h. some-more number c.made draws before.some;
-      made = ap (λ n. n + messages_of deed) before.made ∙ (ap (λ n. made_after 0 (map event_of c.deeds) + n) (sym (messages-same deed))
-          ∙ (sym (made-more 0 (map event_of c.deeds) (event_of deed)) ∙ ap (made_after 0) (sym (map-append event_of c.deeds (deed ∷ [])))));
+      made = ap (λ n. n + messages_of deed) before.made
+          ∙ (ap (λ n. made_after 0 (map event_of c.deeds) + n) (sym (messages-same deed))
+          ∙ (sym (made-more 0 (map event_of c.deeds) (event_of deed))
+          ∙ ap (made_after 0) (sym (map-append event_of c.deeds (deed ∷ [])))));
     }
 
 pub own-events : (deeds : List Deed) → AllByRecursion IsOfReplicas (map event_of deeds)
@@ -112,7 +120,8 @@ own-events [] = tt
 own-events (deed ∷ deeds) = (own-event deed, own-events deeds)
 
 -- the lines of the events
-pub course-lines : (seed number : ℕ) → number ≤ most_drilled → AreLines 0 (map deed_text (course seed number).deeds) (map event_of (course seed number).deeds)
+pub course-lines : (seed number : ℕ) → number ≤ most_drilled
+    → AreLines 0 (map deed_text (course seed number).deeds) (map event_of (course seed number).deeds)
 unfolding course
 course-lines seed zero few = tt
 course-lines seed (suc number) few =
@@ -123,7 +132,11 @@ course-lines seed (suc number) few =
     let made = made_after 0 (map event_of c.deeds) in
     let fine = deed-fine number c.made draws (omega arith) before.some (drawn-within c.generator) in
     let last : IsLine made (deed_text deed) (event_of deed) =
-    subst (λ n. IsLine n (deed_text deed) (event_of deed)) before.made (deed-line c.made deed (omega (arith, before.few)) fine) in
-    let all = lines-append 0 (map deed_text c.deeds) (deed_text deed ∷ []) (map event_of c.deeds) (event_of deed ∷ []) (course-lines seed number (omega arith)) (last, tt) in
-    subst (λ (texts : List (List ℕ)). AreLines 0 texts (map event_of (c.deeds ++ deed ∷ []))) (sym (map-append deed_text c.deeds (deed ∷ [])))
-    (subst (λ (events : List Event). AreLines 0 (map deed_text c.deeds ++ deed_text deed ∷ []) events) (sym (map-append event_of c.deeds (deed ∷ []))) all)
+    subst (λ n. IsLine n (deed_text deed) (event_of deed)) before.made
+    (deed-line c.made deed (omega (arith, before.few)) fine) in
+    let all = lines-append 0 (map deed_text c.deeds) (deed_text deed ∷ []) (map event_of c.deeds) (event_of deed ∷ [])
+    (course-lines seed number (omega arith)) (last, tt) in
+    subst (λ (texts : List (List ℕ)). AreLines 0 texts (map event_of (c.deeds ++ deed ∷ [])))
+    (sym (map-append deed_text c.deeds (deed ∷ [])))
+    (subst (λ (events : List Event). AreLines 0 (map deed_text c.deeds ++ deed_text deed ∷ []) events)
+    (sym (map-append event_of c.deeds (deed ∷ []))) all)

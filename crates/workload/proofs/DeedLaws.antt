@@ -19,7 +19,8 @@ messages-few (Undo at time) = lit≤ tt
 messages-few (Redo at time) = lit≤ tt
 messages-few (Deliver to first last) = lit≤ tt
 
-pub some-more : (number made : ℕ) (draws : Draws) → (0 < number → 0 < made) → 0 < made + messages_of (deed_of number made draws)
+pub some-more : (number made : ℕ) (draws : Draws) → (0 < number → 0 < made)
+    → 0 < made + messages_of (deed_of number made draws)
 some-more zero made draws some = omega (arith, first-makes made draws)
 some-more (suc number) made draws some = omega (arith, some (omega arith))
 
@@ -32,14 +33,17 @@ pub course-next : (seed number : ℕ) → course seed (number + 1) ≡ with_deed
 unfolding course
 course-next seed number = rw add-one refl
 
-pub lines-next : (seed number : ℕ) (start out done ended : List ℕ) (deed : Deed) → deed ≡ next_deed seed number → out ≡ start ++ flat_map line (map deed_text (course seed number).deeds)
-    → done ≡ out ++ deed_text deed → ended ≡ done ++ 10 ∷ [] → ended ≡ start ++ flat_map line (map deed_text (course seed (number + 1)).deeds)
+pub lines-next : (seed number : ℕ) (start out done ended : List ℕ) (deed : Deed) → deed ≡ next_deed seed number
+    → out ≡ start ++ flat_map line (map deed_text (course seed number).deeds)
+    → done ≡ out ++ deed_text deed → ended ≡ done ++ 10 ∷ []
+    → ended ≡ start ++ flat_map line (map deed_text (course seed (number + 1)).deeds)
 lines-next seed number start out done ended deed is before one two =
     let c = course seed number in
     let texts : List (List ℕ) = map deed_text c.deeds in
     let more : texts ++ deed_text deed ∷ [] ≡ map deed_text (course seed (number + 1)).deeds =
     sym (map-append deed_text c.deeds (deed ∷ []))
-    ∙ (ap (λ (d : Deed). map deed_text (c.deeds ++ d ∷ [])) is ∙ sym (ap (λ x. map deed_text x.deeds) (course-next seed number))) in
+    ∙ (ap (λ (d : Deed). map deed_text (c.deeds ++ d ∷ [])) is
+    ∙ sym (ap (λ x. map deed_text x.deeds) (course-next seed number))) in
     two ∙ (ap (λ (bytes : List ℕ). bytes ++ 10 ∷ []) one ∙ (append_assoc out (deed_text deed) (10 ∷ [])
     ∙ (ap (λ (bytes : List ℕ). bytes ++ line (deed_text deed)) before ∙ (flat_map_more line start texts (deed_text deed)
     ∙ ap (λ (all : List (List ℕ)). start ++ flat_map line all) more))))

@@ -104,7 +104,8 @@ plain-frame = record {
 }
 
 -- the choice among five
-chosen : (P : Kind → Type 0) (a b c d : Bool) (p q r s t : Kind) → P p → P q → P r → P s → P t → P (cond a p (cond b q (cond c r (cond d s t))))
+chosen : (P : Kind → Type 0) (a b c d : Bool) (p q r s t : Kind) → P p → P q → P r → P s → P t
+    → P (cond a p (cond b q (cond c r (cond d s t))))
 chosen P true b c d p q r s t one two three four five = one
 chosen P false true c d p q r s t one two three four five = two
 chosen P false false true d p q r s t one two three four five = three
@@ -113,7 +114,8 @@ chosen P false false false false p q r s t one two three four five = five
 
 plain-of : (number : ℕ) → IsPlain (kind_of number)
 plain-of number =
-    chosen IsPlain (number % 5 == 0) (number % 5 == 1) (number % 5 == 2) (number % 5 == 3) kinds.Rectangle kinds.Ellipse kinds.Arrow kinds.Text kinds.Frame plain-rectangle
+    chosen IsPlain (number % 5 == 0) (number % 5 == 1) (number % 5 == 2) (number % 5 == 3) kinds.Rectangle kinds.Ellipse
+    kinds.Arrow kinds.Text kinds.Frame plain-rectangle
     plain-ellipse plain-arrow plain-text plain-frame
 
 -- ---- the members
@@ -130,7 +132,8 @@ members-rise kind number =
     (rising_from (codes "type", quote (kind_name kind)) [] tt rising_none)
 
 -- with the defaults of the table
-restored : (kind : Kind) (number : ℕ) → number < 2 ^ 64 → IsPlain kind → AreRestored (members_as kind number) (all_as kind number)
+restored : (kind : Kind) (number : ℕ) → number < 2 ^ 64 → IsPlain kind
+    → AreRestored (members_as kind number) (all_as kind number)
 restored kind number small plain =
     let members = members_as kind number in
     restored-from members members members (all_as kind number)
@@ -145,11 +148,13 @@ restored kind number small plain =
     (IsPermutation-refl members) (members-rise kind number) refl
 
 -- what is no header member
-rest-as : (kind : Kind) (number : ℕ) → IsPlain kind → AreOthers (is_header kind) (find_in (all_as kind number)) plain_rest
+rest-as : (kind : Kind) (number : ℕ) → IsPlain kind
+    → AreOthers (is_header kind) (find_in (all_as kind number)) plain_rest
 rest-as kind number plain =
     let all = all_as kind number in
     subst (AreOthers (is_header kind) (find_in all)) (plain.rest number)
-    (kept-others (is_header kind) (map member_of all) (merged-rise (members_as kind number) defaults (members-rise kind number) defaults-rise))
+    (kept-others (is_header kind) (map member_of all)
+    (merged-rise (members_as kind number) defaults (members-rise kind number) defaults-rise))
 
 -- ---- the element
 abbrev drawn_as : Kind → ℕ → ElementValue
@@ -158,7 +163,8 @@ drawn_as kind number = record (numbered_element number) { kind = kind }
 digit-found : (digit : ℕ) → digit < 10 → Some ((48 + digit) ∷ []) ≡ Some (decimal digit)
 digit-found digit small = ap Some (sym (decimal_digit digit small))
 
-says-as : (kind : Kind) (number : ℕ) → number < 2 ^ 64 → IsPlain kind → Says (find_in (all_as kind number)) (drawn_as kind number)
+says-as : (kind : Kind) (number : ℕ) → number < 2 ^ 64 → IsPlain kind
+    → Says (find_in (all_as kind number)) (drawn_as kind number)
 unfolding id_text array_text
 says-as kind number small plain = record {
   id = ((id-utf8 number small, refl), λ e. cc);
@@ -178,7 +184,8 @@ says-as kind number small plain = record {
   rest = rest-as kind number plain;
 }
 
-element-as : (kind : Kind) (number : ℕ) → number < 2 ^ 64 → IsPlain kind → IsElementIn (object_text (members_as kind number)) (drawn_as kind number)
+element-as : (kind : Kind) (number : ℕ) → number < 2 ^ 64 → IsPlain kind
+    → IsElementIn (object_text (members_as kind number)) (drawn_as kind number)
 element-as kind number small plain =
     let members = members_as kind number in
     let are = are-members kind number small plain in
@@ -188,7 +195,10 @@ element-as kind number small plain =
       no_selection = record {
         object = record { are_members = AreMembers-deeper 0 127 members (lit≤ tt) are; spelled = refl };
         kind = λ selection.
-            let same = text-once (Some (quote (kind_name kind))) (kind_name kind) (codes "selection") (plain.named, refl) (literal (codes "selection") refl, selection) in
+            let same = text-once (Some (quote (kind_name kind))) (kind_name kind) (codes "selection") (
+              plain.named,
+              refl,
+            ) (literal (codes "selection") refl, selection) in
             bytes_eq-differ (kind_name kind) (codes "selection") plain.apart same;
       };
       shallow = Value-deeper (lit≤ tt) (object-compact 0 members are);
@@ -205,4 +215,5 @@ element-read number small = element-as (kind_of number) number small (plain-of n
 
 pub element-compact : (number : ℕ) → number < 2 ^ 64 → IsCompact 1 (numbered_element_text number)
 unfolding numbered_element_text
-element-compact number small = object-compact 0 (numbered_element_members number) (are-members (kind_of number) number small (plain-of number))
+element-compact number small =
+    object-compact 0 (numbered_element_members number) (are-members (kind_of number) number small (plain-of number))

@@ -14,7 +14,8 @@ use Rattle.workload.specs.Texts.{numbered_id, id_text}
 id-ascii : (number : ℕ) → number < 2 ^ 64 → IsAscii (numbered_id number)
 id-ascii number small zero = lit< tt
 id-ascii number small (suc i) = elim (cases_lt i (length (decimal number))) [
-  | inl within ↦ let digit = digit_of_decimal (decimal number) number i small refl within in omega (arith, digit.0, digit.1)
+  | inl within ↦ let digit =
+      digit_of_decimal (decimal number) number i small refl within in omega (arith, digit.0, digit.1)
   | inr past ↦ omega (arith, get_or_past (decimal number) i 0 past)
 ]
 

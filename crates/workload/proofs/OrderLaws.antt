@@ -49,10 +49,15 @@ one-id : (element : ℕ) → element < 200 → AreIds (Some (array_text (id_text
 unfolding id_text
 one-id element small = (numbered_id element ∷ [], ((id-utf8 element (fits element small), tt), refl), refl)
 
-two-ids : (element other : ℕ) → element < 200 → other < 200 → AreIds (Some (array_text (id_text element ∷ id_text other ∷ []))) (first_texts (numbered_id element ∷ numbered_id other ∷ []))
+two-ids : (element other : ℕ) → element < 200 → other < 200
+    → AreIds (Some (array_text (id_text element ∷ id_text other ∷ [])))
+    (first_texts (numbered_id element ∷ numbered_id other ∷ []))
 unfolding id_text
-two-ids element other one two =
-    (numbered_id element ∷ numbered_id other ∷ [], ((id-utf8 element (fits element one), (id-utf8 other (fits other two), tt)), refl), refl)
+two-ids element other one two = (
+  numbered_id element ∷ numbered_id other ∷ [],
+  ((id-utf8 element (fits element one), (id-utf8 other (fits other two), tt)), refl),
+  refl,
+)
 
 -- ---- compact values
 id-value : (number : ℕ) → number < 200 → IsCompact 1 (id_text number)
@@ -71,9 +76,13 @@ side-value sides.End = word-value (codes "end") (literal (codes "end") refl)
 one-value : (element : ℕ) → element < 200 → IsCompact 1 (array_text (id_text element ∷ []))
 one-value element small = array-compact 0 (id_text element ∷ []) (id-compact element (fits element small), tt)
 
-two-values : (element other : ℕ) → element < 200 → other < 200 → IsCompact 1 (array_text (id_text element ∷ id_text other ∷ []))
+two-values : (element other : ℕ) → element < 200 → other < 200
+    → IsCompact 1 (array_text (id_text element ∷ id_text other ∷ []))
 two-values element other one two =
-    array-compact 0 (id_text element ∷ id_text other ∷ []) (id-compact element (fits element one), (id-compact other (fits other two), tt))
+    array-compact 0 (id_text element ∷ id_text other ∷ []) (
+      id-compact element (fits element one),
+      (id-compact other (fits other two), tt),
+    )
 
 -- ---- the member `after` of a spot
 after-are : (other : ℕ) → other < 200 → AreMembers 0 ((codes "after", id_text other) ∷ [])
@@ -83,10 +92,18 @@ after-are other small = record {
   distinct = IsDistinct-from_count nat_list_eq_equiv _ refl;
 }
 
-after-is : (other : ℕ) → other < 200 → IsSpotAfter (object_text ((codes "after", id_text other) ∷ [])) (numbered_id other)
+after-is : (other : ℕ) → other < 200
+    → IsSpotAfter (object_text ((codes "after", id_text other) ∷ [])) (numbered_id other)
 after-is other small =
-    let members : List Pair = (codes "after", id_text other) ∷ [] in
-    (members, record { are_members = AreMembers-deeper 0 127 members (lit≤ tt) (after-are other small); spelled = refl }, id-is other small)
+    let members : List Pair = (codes "after", id_text other) ∷ [] in (
+      members,
+      record {
+        are_members = AreMembers-deeper 0 127 members (lit≤ tt) (after-are other small);
+        spelled =
+            refl;
+      },
+      id-is other small,
+    )
 
 none-are : AreMembers 0 []
 none-are = record { named = tt; valued = tt; distinct = IsDistinct-from_count nat_list_eq_equiv _ refl }
@@ -94,7 +111,11 @@ none-are = record { named = tt; valued = tt; distinct = IsDistinct-from_count na
 no-rest : IsRest (Some (object_text [])) []
 no-rest = (
   Value-deeper (lit≤ tt) (object-compact 0 [] none-are),
-  ([], record { are_members = AreMembers-deeper 0 127 [] (lit≤ tt) none-are; spelled = refl }, record { rise = refl; free = refl; same = λ name other. refl }),
+  (
+    [],
+    record { are_members = AreMembers-deeper 0 127 [] (lit≤ tt) none-are; spelled = refl },
+    record { rise = refl; free = refl; same = λ name other. refl },
+  ),
 )
 
 -- ---- the commands
@@ -108,7 +129,10 @@ order-are (Create element) small = record {
   distinct = IsDistinct-from_count nat_list_eq_equiv _ refl;
 }
 order-are (SetX element value) small = record {
-  named = (literal (codes "name") refl, (literal (codes "id") refl, (literal (codes "member") refl, (literal (codes "value") refl, tt))));
+  named = (
+    literal (codes "name") refl,
+    (literal (codes "id") refl, (literal (codes "member") refl, (literal (codes "value") refl, tt))),
+  );
   valued = (
     word-value (codes "set") (literal (codes "set") refl),
     (id-value element small.0, (word-value (codes "x") (literal (codes "x") refl), (number-value value small.1, tt))),
@@ -116,7 +140,10 @@ order-are (SetX element value) small = record {
   distinct = IsDistinct-from_count nat_list_eq_equiv _ refl;
 }
 order-are (SetY element value) small = record {
-  named = (literal (codes "name") refl, (literal (codes "id") refl, (literal (codes "member") refl, (literal (codes "value") refl, tt))));
+  named = (
+    literal (codes "name") refl,
+    (literal (codes "id") refl, (literal (codes "member") refl, (literal (codes "value") refl, tt))),
+  );
   valued = (
     word-value (codes "set") (literal (codes "set") refl),
     (id-value element small.0, (word-value (codes "y") (literal (codes "y") refl), (number-value value small.1, tt))),
@@ -132,7 +159,16 @@ order-are (Place element other) small = record {
   distinct = IsDistinct-from_count nat_list_eq_equiv _ refl;
 }
 order-are (Bind side element other) small = record {
-  named = (literal (codes "name") refl, (literal (codes "arrow") refl, (literal (codes "end") refl, (literal (codes "target") refl, (literal (codes "binding") refl, tt)))));
+  named = (
+    literal (codes "name") refl,
+    (
+      literal (codes "arrow") refl,
+      (
+        literal (codes "end") refl,
+        (literal (codes "target") refl, (literal (codes "binding") refl, tt)),
+      ),
+    ),
+  );
   valued = (
     word-value (codes "bind") (literal (codes "bind") refl),
     (id-value element small.0, (side-value side, (id-value other small.1, (object-compact 0 [] none-are, tt)))),
@@ -141,12 +177,18 @@ order-are (Bind side element other) small = record {
 }
 order-are (Label element other) small = record {
   named = (literal (codes "name") refl, (literal (codes "container") refl, (literal (codes "text") refl, tt)));
-  valued = (word-value (codes "label") (literal (codes "label") refl), (id-value element small.0, (id-value other small.1, tt)));
+  valued = (
+    word-value (codes "label") (literal (codes "label") refl),
+    (id-value element small.0, (id-value other small.1, tt)),
+  );
   distinct = IsDistinct-from_count nat_list_eq_equiv _ refl;
 }
 order-are (Frame element other) small = record {
   named = (literal (codes "name") refl, (literal (codes "ids") refl, (literal (codes "frame") refl, tt)));
-  valued = (word-value (codes "frame") (literal (codes "frame") refl), (one-value element small.0, (id-value other small.1, tt)));
+  valued = (
+    word-value (codes "frame") (literal (codes "frame") refl),
+    (one-value element small.0, (id-value other small.1, tt)),
+  );
   distinct = IsDistinct-from_count nat_list_eq_equiv _ refl;
 }
 order-are (Group element other) small = record {
@@ -165,31 +207,49 @@ order-are (Delete element) small = record {
 
 order-says : (order : Order) → IsSmall order → CommandOf (order_members order) (Ok (command_of order))
 order-says (Create element) small =
-    create-said (order_members (Create element)) (numbered_element element) spots.Top refl (goes_on (numbered_element_text element) refl (element-read element (fits element small))) refl
+    create-said (order_members (Create element)) (numbered_element element) spots.Top refl
+    (goes_on (numbered_element_text element) refl (element-read element (fits element small))) refl
 order-says (SetX element value) small =
-    set-said (order_members (SetX element value)) (numbered_id element) (codes "x") (decimal value) refl (id-is element small.0) (literal (codes "x") refl, refl)
+    set-said (order_members (SetX element value)) (numbered_id element) (codes "x") (decimal value) refl
+    (id-is element small.0) (literal (codes "x") refl, refl)
     (refl, decimal_nests 100 value (fits value small.1))
 order-says (SetY element value) small =
-    set-said (order_members (SetY element value)) (numbered_id element) (codes "y") (decimal value) refl (id-is element small.0) (literal (codes "y") refl, refl)
+    set-said (order_members (SetY element value)) (numbered_id element) (codes "y") (decimal value) refl
+    (id-is element small.0) (literal (codes "y") refl, refl)
     (refl, decimal_nests 100 value (fits value small.1))
 order-says (Place element other) small =
-    place-said (order_members (Place element other)) (numbered_id element) (spots.After (numbered_id other)) refl (id-is element small.0) (after-is other small.1)
+    place-said (order_members (Place element other)) (numbered_id element) (spots.After (numbered_id other)) refl
+    (id-is element small.0) (after-is other small.1)
 order-says (Bind side element other) small =
-    bind-said (order_members (Bind side element other)) (numbered_id element) side (numbered_id other) [] refl (id-is element small.0) refl (id-is other small.1) no-rest
+    bind-said (order_members (Bind side element other)) (numbered_id element) side (numbered_id other) [] refl
+    (id-is element small.0) refl (id-is other small.1) no-rest
 order-says (Label element other) small =
-    label-said (order_members (Label element other)) (numbered_id element) (numbered_id other) refl (id-is element small.0) (id-is other small.1)
+    label-said (order_members (Label element other)) (numbered_id element) (numbered_id other) refl
+    (id-is element small.0) (id-is other small.1)
 order-says (Frame element other) small =
-    frame-said (order_members (Frame element other)) (numbered_id element ∷ []) (numbered_id other) refl (one-id element small.0) (id-is other small.1)
+    frame-said (order_members (Frame element other)) (numbered_id element ∷ []) (numbered_id other) refl
+    (one-id element small.0) (id-is other small.1)
 order-says (Group element other) small =
-    group-said (order_members (Group element other)) (first_texts (numbered_id element ∷ numbered_id other ∷ [])) (codes "g") refl (two-ids element other small.0 small.1)
+    group-said (order_members (Group element other)) (first_texts (numbered_id element ∷ numbered_id other ∷ []))
+    (codes "g") refl (two-ids element other small.0 small.1)
     (literal (codes "g") refl, refl)
-order-says (Delete element) small = delete-said (order_members (Delete element)) (numbered_id element ∷ []) refl (one-id element small)
+order-says (Delete element) small =
+    delete-said (order_members (Delete element)) (numbered_id element ∷ []) refl (one-id element small)
 
 -- the command as the member of a change
-pub order-read : (order : Order) → IsSmall order → HasObject (Some (order_text order)) (order_members order) × CommandOf (order_members order) (Ok (command_of order))
+pub order-read : (order : Order) → IsSmall order → HasObject (Some (order_text order)) (order_members order)
+    × CommandOf (order_members order) (Ok (command_of order))
 unfolding order_text
 order-read order small = (
-  (order_text order, refl, record { are_members = AreMembers-deeper 1 127 (order_members order) (lit≤ tt) (order-are order small); spelled = refl }),
+  (
+    order_text order,
+    refl,
+    record {
+      are_members =
+          AreMembers-deeper 1 127 (order_members order) (lit≤ tt) (order-are order small);
+      spelled = refl;
+    },
+  ),
   order-says order small,
 )
 

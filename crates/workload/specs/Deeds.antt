@@ -39,8 +39,9 @@ abbrev pub capture_of : ℕ → Capture
 capture_of number =
     if number == 0 then captures.Later else (if number == 1 then captures.Never else captures.Now)
 
--- The event of this number, where so many messages were made before it: a command in the rows 0 to 13, undo in 14, redo
--- in 15, and in the others two messages are delivered, the latest among them. Its time is its number and one.
+-- The event of this number, where so many messages were made before it: a command in the rows 0 to
+-- 13, undo in 14, redo in 15, and in the others two messages are delivered, the latest among them.
+-- Its time is its number and one.
 unfoldable pub deed_of : ℕ → ℕ → Draws → Deed
 deed_of number made draws =
     if nat_le (row_of number draws) 13 then Change draws.at (number + 1) (capture_of draws.capture)
@@ -73,4 +74,5 @@ with_deed deed c = record {
 unfoldable pub course : ℕ → ℕ → Course
 course seed zero = record { deeds = []; made = 0; generator = generator_of seed }
 course seed (suc number) =
-    with_deed (deed_of number (course seed number).made (drawn (course seed number).generator)) (course seed number)
+    with_deed (deed_of number (course seed number).made (drawn (course seed number).generator))
+    (course seed number)

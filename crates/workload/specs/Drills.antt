@@ -27,7 +27,8 @@ command_of (Bind side element other) =
     commands.Bind (numbered_id element) side (numbered_id other) []
 command_of (Label element other) = commands.Label (numbered_id element) (numbered_id other)
 command_of (Frame element other) = commands.Frame (numbered_id element ∷ []) (numbered_id other)
-command_of (Group element other) = commands.Group (first_texts (numbered_id element ∷ numbered_id other ∷ [])) (codes "g")
+command_of (Group element other) =
+    commands.Group (first_texts (numbered_id element ∷ numbered_id other ∷ [])) (codes "g")
 command_of (Delete element) = commands.Delete (numbered_id element ∷ [])
 
 -- whole messages are delivered

@@ -19,8 +19,9 @@ IsOfReplicas (Release at id) = ⊥
 IsOfReplicas (Undo at time) = Unit {0}
 IsOfReplicas (Redo at time) = Unit {0}
 
--- Four replicas begin with nothing. So many events are followed by four deliveries, one to each replica, of all
--- messages that the events made: rising to the first and the third, falling to the others.
+-- Four replicas begin with nothing. So many events are followed by four deliveries, one to each
+-- replica, of all messages that the events made: rising to the first and the third, falling to the
+-- others.
 pub record IsDrill (given count : ℕ) (session : Session) : Type 0 where
   pub replicas : session.replicas ≡ 4
   pub seed : session.seed ≡ given

@@ -32,7 +32,8 @@ kind_of number =
     else kinds.Frame)))
 
 abbrev pub numbered_element_members : ℕ → List Pair
-numbered_element_members number = (codes "id", id_text number) ∷ (codes "type", quote (kind_name (kind_of number))) ∷ []
+numbered_element_members number =
+    (codes "id", id_text number) ∷ (codes "type", quote (kind_name (kind_of number))) ∷ []
 
 unfoldable pub numbered_element_text : ℕ → List ℕ
 numbered_element_text number = object_text (numbered_element_members number)
@@ -40,25 +41,34 @@ numbered_element_text number = object_text (numbered_element_members number)
 -- ---- commands
 abbrev pub set_members : ℕ → List ℕ → ℕ → List Pair
 set_members element member value =
-    (codes "name", quote (codes "set")) ∷ (codes "id", id_text element) ∷ (codes "member", quote member) ∷ (codes "value", decimal value) ∷ []
+    (codes "name", quote (codes "set")) ∷ (codes "id", id_text element)
+    ∷ (codes "member", quote member) ∷ (codes "value", decimal value) ∷ []
 
 abbrev pub order_members : Order → List Pair
 order_members (Create element) =
-    (codes "name", quote (codes "create")) ∷ (codes "element", numbered_element_text element) ∷ (codes "spot", quote (codes "top")) ∷ []
+    (codes "name", quote (codes "create")) ∷ (codes "element", numbered_element_text element)
+    ∷ (codes "spot", quote (codes "top")) ∷ []
 order_members (SetX element value) = set_members element (codes "x") value
 order_members (SetY element value) = set_members element (codes "y") value
 order_members (Place element other) =
-    (codes "name", quote (codes "place")) ∷ (codes "id", id_text element) ∷ (codes "spot", object_text ((codes "after", id_text other) ∷ [])) ∷ []
+    (codes "name", quote (codes "place")) ∷ (codes "id", id_text element)
+    ∷ (codes "spot", object_text ((codes "after", id_text other) ∷ [])) ∷ []
 order_members (Bind side element other) =
-    (codes "name", quote (codes "bind")) ∷ (codes "arrow", id_text element) ∷ (codes "end", side_text side) ∷ (codes "target", id_text other)
+    (codes "name", quote (codes "bind")) ∷ (codes "arrow", id_text element)
+    ∷ (codes "end", side_text side) ∷ (codes "target", id_text other)
     ∷ (codes "binding", object_text []) ∷ []
 order_members (Label element other) =
-    (codes "name", quote (codes "label")) ∷ (codes "container", id_text element) ∷ (codes "text", id_text other) ∷ []
+    (codes "name", quote (codes "label")) ∷ (codes "container", id_text element)
+    ∷ (codes "text", id_text other) ∷ []
 order_members (Frame element other) =
-    (codes "name", quote (codes "frame")) ∷ (codes "ids", array_text (id_text element ∷ [])) ∷ (codes "frame", id_text other) ∷ []
+    (codes "name", quote (codes "frame")) ∷ (codes "ids", array_text (id_text element ∷ []))
+    ∷ (codes "frame", id_text other) ∷ []
 order_members (Group element other) =
-    (codes "name", quote (codes "group")) ∷ (codes "ids", array_text (id_text element ∷ id_text other ∷ [])) ∷ (codes "group", quote (codes "g")) ∷ []
-order_members (Delete element) = (codes "name", quote (codes "delete")) ∷ (codes "ids", array_text (id_text element ∷ [])) ∷ []
+    (codes "name", quote (codes "group"))
+    ∷ (codes "ids", array_text (id_text element ∷ id_text other ∷ []))
+    ∷ (codes "group", quote (codes "g")) ∷ []
+order_members (Delete element) =
+    (codes "name", quote (codes "delete")) ∷ (codes "ids", array_text (id_text element ∷ [])) ∷ []
 
 unfoldable pub order_text : Order → List ℕ
 order_text order = object_text (order_members order)
@@ -66,16 +76,19 @@ order_text order = object_text (order_members order)
 -- ---- events
 abbrev pub change_members : ℕ → ℕ → Capture → Order → List Pair
 change_members at time capture order =
-    (codes "do", quote (codes "change")) ∷ (codes "at", decimal at) ∷ (codes "time", decimal time) ∷ (codes "capture", capture_text capture)
+    (codes "do", quote (codes "change")) ∷ (codes "at", decimal at) ∷ (codes "time", decimal time)
+    ∷ (codes "capture", capture_text capture)
     ∷ (codes "command", order_text order) ∷ []
 
 -- an undo or a redo, as this word says
 abbrev pub step_members : List ℕ → ℕ → ℕ → List Pair
-step_members word at time = (codes "do", quote word) ∷ (codes "at", decimal at) ∷ (codes "time", decimal time) ∷ []
+step_members word at time =
+    (codes "do", quote word) ∷ (codes "at", decimal at) ∷ (codes "time", decimal time) ∷ []
 
 abbrev pub delivery_members : ℕ → List ℕ → List Pair
 delivery_members to messages =
-    (codes "do", quote (codes "deliver")) ∷ (codes "to", decimal to) ∷ (codes "picks", array_text (map decimal messages)) ∷ []
+    (codes "do", quote (codes "deliver")) ∷ (codes "to", decimal to)
+    ∷ (codes "picks", array_text (map decimal messages)) ∷ []
 
 unfoldable pub delivery_text : ℕ → List ℕ → List ℕ
 delivery_text to messages = object_text (delivery_members to messages)
@@ -102,7 +115,8 @@ last_texts made =
 -- ---- the drill
 abbrev pub session_header_members : ℕ → List Pair
 session_header_members seed =
-    (codes "session", codes "1") ∷ (codes "replicas", codes "4") ∷ (codes "seed", decimal seed) ∷ (codes "scene", codes "null") ∷ []
+    (codes "session", codes "1") ∷ (codes "replicas", codes "4") ∷ (codes "seed", decimal seed)
+    ∷ (codes "scene", codes "null") ∷ []
 
 unfoldable pub session_header_text : ℕ → List ℕ
 session_header_text seed = object_text (session_header_members seed)
@@ -115,7 +129,7 @@ abbrev pub event_texts : ℕ → ℕ → List (List ℕ)
 event_texts seed events =
     map deed_text (course seed events).deeds ++ last_texts (course seed events).made
 
--- the text of the drill of a seed with so many events before the last four: a line for the header, and one for each
--- event
+-- the text of the drill of a seed with so many events before the last four: a line for the header,
+-- and one for each event
 unfoldable pub drill_text : ℕ → ℕ → List ℕ
 drill_text seed events = flat_map line (session_header_text seed ∷ event_texts seed events)

@@ -13,9 +13,9 @@ use board_base::Bytes;
 use drawn_words::generator_of;
 use std::alloc::{AllocError, Global};
 
-/// The text of a session: four replicas, so many events that are drawn from the seed, and then a delivery of all
-/// messages to each replica. The draws are those of a `Pcg32` that `seed_from_u64` makes of the seed. Fails only for
-/// want of memory.
+/// The text of a session: four replicas, so many events that are drawn from the seed, and then a
+/// delivery of all messages to each replica. The draws are those of a `Pcg32` that `seed_from_u64`
+/// makes of the seed. Fails only for want of memory.
 pub fn make_session(alloc: Global, seed: u64, events: u64) -> Result<Bytes, AllocError>
     requires some { 1 ≤ events }
     requires most { events ≤ most_drilled }

@@ -2,8 +2,8 @@
 use Rattle.std.specs.Prelude.{ℕ, Option, None}
 use Rattle.board_ends.specs.Ends.{LinksEnd}
 
--- The port that is listened on, how many calls of `listen` there were, how many calls of `listen` and `next` failed,
--- and how many sends found their link gone.
+-- The port that is listened on, how many calls of `listen` there were, how many calls of `listen`
+-- and `next` failed, and how many sends found their link gone.
 pub record LinkCounts : Type 0 where
   pub port : Option ℕ
   pub listens : ℕ

@@ -31,7 +31,13 @@ impl<R> Model for WsLinks<R> {
 
     ghost Value = { LinkCounts };
 
-    ghost view = { λ l. record { port = l.port; listens = l.listens; faults = l.faults; gone = l.gone } };
+    ghost view = { λ l. record {
+      port = l.port;
+      listens = l.listens;
+      faults = l.faults;
+      gone =
+          l.gone;
+    } };
 }
 
 impl<R: Net + Clock + Drop> WsLinks<R> {

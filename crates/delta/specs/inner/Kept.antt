@@ -20,8 +20,10 @@ pub record IsHeaderSet (old new : ElementValue) (header : Header) (value : List 
   pub others : (other : Header) → other ≢ header → scalar_text new other ≡ scalar_text old other
 
 -- the scalar of this name has this value, or is gone, and all else is as before
-pub record IsScalarSet (old new : ElementValue) (name : List ℕ) (value : Option (List ℕ)) : Type 0 where
+pub record IsScalarSet (old new : ElementValue) (name : List ℕ) (value : Option (List ℕ)) :
+    Type 0 where
   pub stamp : KeepsStamp old new
   pub groups : new.groups ≡ old.groups
   pub bound : new.bound ≡ old.bound
-  pub scalars : (other : List ℕ) → scalar_of new other ≡ (if bytes_eq other name then value else scalar_of old other)
+  pub scalars : (other : List ℕ) → scalar_of new other
+      ≡ (if bytes_eq other name then value else scalar_of old other)

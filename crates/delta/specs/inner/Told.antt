@@ -22,7 +22,8 @@ with_change changes None = changes
 with_change changes (Some change) = with_item name_of change changes
 
 -- The changes tell of these names and of no other one.
-pub record AreChangesOf (before after : ElementValue) (names : List (List ℕ)) (changes : List Change) : Type 0 where
+pub record AreChangesOf (before after : ElementValue) (names : List (List ℕ))
+    (changes : List Change) : Type 0 where
   pub told : (name : List ℕ) → change_of changes name
       ≡ (if list_any (bytes_eq name) names then change_between before after name else None)
   pub rise : are_rising (change_names changes) ≡ true

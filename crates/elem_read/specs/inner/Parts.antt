@@ -7,8 +7,10 @@ use Rattle.elem.specs.Forms.{IsListingEntry}
 use Rattle.elem_read.specs.Faults.{Lacks}
 use Rattle.elem_read.specs.declared.fault.ElemFault.{ElemFault}
 
--- What has the property was read; or nothing has the other one, and this is the fault; or memory was wanting.
-abbrev pub ReadsOr : {A B : Type 0} → (A → Type 0) → (B → Type 0) → ElemFault → Result A (Stop ElemFault) → Type 0
+-- What has the property was read; or nothing has the other one, and this is the fault; or memory
+-- was wanting.
+abbrev pub ReadsOr : {A B : Type 0} → (A → Type 0) → (B → Type 0) → ElemFault
+    → Result A (Stop ElemFault) → Type 0
 ReadsOr P Q fault (Ok x) = P x
 ReadsOr P Q fault (Err (Fault other)) = (other ≡ fault) × Lacks Q
 ReadsOr P Q fault (Err Memory) = Unit {0}

@@ -10,7 +10,9 @@ use Rattle.index_repair.proofs.repair_part.Goals.{in-Some+in_ok-push_between-in-
 pub loop-key-init : goal.loop-key-init
 unfolding repaired_below
 loop-key-init c = record {
-  made = ap (λ new. new ++ filled_after (option_copied c.args.above) None 0 (kept_after None c.as_slice-key-items.result.now)) c.new-new.ensures.items;
+  made =
+      ap (λ new. new ++ filled_after (option_copied c.args.above) None 0
+      (kept_after None c.as_slice-key-items.result.now)) c.new-new.ensures.items;
   are_keys = refl;
   short = omega arith;
   rise = refl;
@@ -19,17 +21,24 @@ loop-key-init c = record {
 pub loop-key-preserved : goal.loop-key-preserved
 loop-key-preserved c =
     let keys = c.as_slice-key-items.result.now in
-    let below : are_below (option_copied c.args.above) keys ≡ true = ap (are_below (option_copied c.args.above)) c.as_slice-key-items.ensures ∙ c.requires in
+    let below : are_below (option_copied c.args.above) keys ≡ true =
+    ap (are_below (option_copied c.args.above)) c.as_slice-key-items.ensures ∙ c.requires in
     elim c.match-kept_key.branch [
       | in-Some+in_ok-push_between-in-Some+in_ok-try_clone-in-Some+in_ok-push-in-Some w ↦
           rw (w.new-is, w.low-is, w.run-is)
-          (rw (w.in_ok-push-in-Some.ensures.items, w.in_ok-push_between-in-Some.ensures, w.in_ok-try_clone-in-Some.ensures)
-          (IsSoFar-kept (option_copied c.args.above) (option_copied c.loop-key.low) c.loop-key.run keys c.loop-key.key-index c.loop-key.new.items c.key-item.result
+          (rw (
+            w.in_ok-push-in-Some.ensures.items,
+            w.in_ok-push_between-in-Some.ensures,
+            w.in_ok-try_clone-in-Some.ensures,
+          )
+          (IsSoFar-kept (option_copied c.args.above) (option_copied c.loop-key.low) c.loop-key.run keys
+          c.loop-key.key-index c.loop-key.new.items c.key-item.result
           c.loop-key-test.true c.key-item.is c.kept_key.ensures.key c.loop-key.invariant w.in-Some.key.now
           (sym c.kept_key.ensures.kept ∙ ap option_copied w.in-Some.is) below))
       | in-None w ↦
           rw (w.new-is, w.low-is, w.run-is)
-          (IsSoFar-not_kept (option_copied c.args.above) (option_copied c.loop-key.low) c.loop-key.run keys c.loop-key.key-index c.loop-key.new.items c.key-item.result
+          (IsSoFar-not_kept (option_copied c.args.above) (option_copied c.loop-key.low) c.loop-key.run keys
+          c.loop-key.key-index c.loop-key.new.items c.key-item.result
           c.loop-key-test.true c.key-item.is c.kept_key.ensures.key c.loop-key.invariant
           (sym c.kept_key.ensures.kept ∙ ap option_copied w.in-None.is))
     ]
@@ -41,16 +50,19 @@ module _ (c : goal.After-from_vec) where
   made : c.from_vec.result ≡ repaired_below (option_copied c.args.above) c.args.keys.now
   made =
       c.from_vec.ensures ∙ c.in_ok-push_between.ensures
-      ∙ IsSoFar-made (option_copied c.args.above) (option_copied c.loop-key.low) c.loop-key.run c.as_slice-key-items.result.now c.loop-key.key-index c.loop-key.new.items over c.loop-key.invariant
+      ∙ IsSoFar-made (option_copied c.args.above) (option_copied c.loop-key.low) c.loop-key.run
+      c.as_slice-key-items.result.now c.loop-key.key-index c.loop-key.new.items over c.loop-key.invariant
       ∙ ap (repaired_below (option_copied c.args.above)) c.as_slice-key-items.ensures
 
   are_keys : list_all is_key_or_none c.args.keys.now ≡ true
   are_keys =
       ap (list_all is_key_or_none) (sym c.as_slice-key-items.ensures)
-      ∙ IsSoFar-keys (option_copied c.args.above) (option_copied c.loop-key.low) c.loop-key.run c.as_slice-key-items.result.now c.loop-key.key-index c.loop-key.new.items over c.loop-key.invariant
+      ∙ IsSoFar-keys (option_copied c.args.above) (option_copied c.loop-key.low) c.loop-key.run
+      c.as_slice-key-items.result.now c.loop-key.key-index c.loop-key.new.items over c.loop-key.invariant
 
   done : AreRepairedBelow (option_copied c.args.above) c.args.keys.now c.from_vec.result
-  done = AreRepairedBelow-from (option_copied c.args.above) c.args.keys.now c.from_vec.result made c.end_bytes-above.ensures.key c.requires are_keys
+  done = AreRepairedBelow-from (option_copied c.args.above) c.args.keys.now c.from_vec.result made
+      c.end_bytes-above.ensures.key c.requires are_keys
 
 pub returns-clause-exact : goal.returns-clause-exact
 returns-clause-exact c = made c

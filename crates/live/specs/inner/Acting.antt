@@ -1,5 +1,5 @@
--- What comes of an act of a replica, before it is one of a living replica. Only contracts of private functions cite
--- this.
+-- What comes of an act of a replica, before it is one of a living replica. Only contracts of
+-- private functions cite this.
 use Rattle.std.specs.Prelude.{◌≡◌, ℕ, List, None}
 use Rattle.history.specs.declared.step.Step.{Step}
 use Rattle.history.specs.declared.step.Step.TheVariants.{Done, Nothing}

@@ -24,7 +24,8 @@ pub record HasGone (live : List ElementValue) (id : List ℕ)
 abbrev pub all_stored : List ElementValue → List ElementValue → List ElementValue
 all_stored live drawn = map (as_stored live) drawn
 
--- An element comes behind what stands before a place of elements in scene order, and before what stands there.
+-- An element comes behind what stands before a place of elements in scene order, and before what
+-- stands there.
 pub record IsPlaceFor (elements : List ElementValue) (e : ElementValue) (place : ℕ) : Type 0 where
   pub within : place ≤ length elements
   pub before : (i : ℕ) (d : ElementValue) → i + 1 ≡ place
@@ -47,8 +48,8 @@ pub record AreAround (live : List ElementValue) (e : ElementValue)
   pub reached : HaveReached live start near
   pub surrounded : AreSurrounded live (e ∷ []) near wide
 
--- Those of the elements that are near, but for one, are put where they are shown, with the keys that they are shown
--- with.
+-- Those of the elements that are near, but for one, are put where they are shown, with the keys
+-- that they are shown with.
 pub record ArePutBeside (drawn part : List ElementValue) (near : List (List ℕ)) (id : List ℕ)
     (puts : List Put) : Type 0 where
   pub others : List (List ℕ)

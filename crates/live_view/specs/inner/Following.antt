@@ -16,7 +16,8 @@ pub record ArePicked (stored : List ElementValue) (ids : List (List ℕ))
       → element_of news id ≡ (if is_among ids id then element_of stored id else None)
   pub there : (id : List ℕ) → is_among ids id ≡ true → is_some (element_of stored id) ≡ true
 
--- These, in the order of their ids, are in place of the stored ones what is stored after changed elements were taken.
+-- These, in the order of their ids, are in place of the stored ones what is stored after changed
+-- elements were taken.
 pub record AreTaken (stored changed news : List ElementValue) : Type 0 where
   pub ordered : are_rising (ids_of news) ≡ true
   pub each : (id : List ℕ) → element_of (taken_all changed stored) id ≡ element_after stored news id

@@ -23,7 +23,8 @@ key_rises None next = false
 key_rises (Some key) None = false
 key_rises (Some key) (Some next) = bytes_less key next
 
--- whether a list may be cut between these parts: at an end of it, or at a key that is greater than all before it
+-- whether a list may be cut between these parts: at an end of it, or at a key that is greater than
+-- all before it
 abbrev pub is_cut : List (Option (List ℕ)) → List (Option (List ℕ)) → Bool
 is_cut before [] = true
 is_cut [] (None ∷ after) = true
@@ -43,7 +44,8 @@ pub record IsRunStart (keys : List (Option (List ℕ))) (place start : ℕ) : Ty
 abbrev pub part_of : List (Option (List ℕ)) → ℕ → ℕ → List (Option (List ℕ))
 part_of keys start end' = drop start (take end' keys)
 
--- These are the keys of a part, which may be cut off where others of the list stand behind it, repaired apart.
+-- These are the keys of a part, which may be cut off where others of the list stand behind it,
+-- repaired apart.
 pub record AreRepaired (keys part : List (Option (List ℕ))) (end' : ℕ)
     (new : List (List ℕ)) : Type 0 where
   pub cut : is_cut part (drop end' keys) ≡ true

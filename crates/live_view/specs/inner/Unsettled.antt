@@ -1,4 +1,5 @@
--- Ids of elements that may be shown otherwise than they are stored, before a change and after it. This project's own.
+-- Ids of elements that may be shown otherwise than they are stored, before a change and after it.
+-- This project's own.
 use Rattle.std.specs.Prelude.{◌≡◌, ℕ, ◌+◌, List, [], ◌∷◌, ◌++◌, length, take, drop, map, false}
 use Rattle.std.specs.BTreeSet.{BTreeSet, contains}
 use Rattle.std.specs.Cmp.Lexicographic.{slice_cmp}
@@ -30,8 +31,8 @@ put_ids puts = map put_id puts
 abbrev pub run_ids : ℕ → ℕ → List ElementValue → List (List ℕ)
 run_ids start count drawn = ids_of (take count (drop start drawn))
 
--- The ids of what is shown anew where one element comes or goes: those of what is put, its own, and those of the run
--- whose keys are set, with the one that comes among them or not.
+-- The ids of what is shown anew where one element comes or goes: those of what is put, its own, and
+-- those of the run whose keys are set, with the one that comes among them or not.
 abbrev pub touched_ids : List ElementValue → List Put → List ℕ → ℕ → List (List ℕ) → List (List ℕ)
 touched_ids drawn puts id start keys =
     (put_ids puts ++ id ∷ []) ++ run_ids start (length keys + 1) drawn

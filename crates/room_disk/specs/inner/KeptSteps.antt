@@ -31,8 +31,8 @@ abbrev pub kept_answers : ℕ → ℕ → Option (List ℕ) → List (ℕ × Lis
 kept_answers sender count None = []
 kept_answers sender count (Some text) = (sender, kept_text (count + 1)) ∷ []
 
--- why a record isn't kept: for want of memory the journal is as before; where it failed it took a first part of the
--- record
+-- why a record isn't kept: for want of memory the journal is as before; where it failed it took a
+-- first part of the record
 abbrev pub IsRecordStopped : Option (List ℕ) → SinkEnd → SinkEnd → KeepEnd → Type 0
 IsRecordStopped kept before after JournalFault =
     (text : List ℕ) × (kept ≡ Some text) × HasGained (record_of text ∷ []) before after
@@ -51,7 +51,8 @@ message_bytes messages = bytes_of (map update_record messages)
 -- Between the two so many bytes of a journal became safe, where it tells its bytes.
 abbrev pub IsSafeBy : SinkEnd → SinkEnd → List ℕ → Type 0
 IsSafeBy before after bytes =
-    IfSome before.held (λ held. (safe : ℕ) × (after.safe ≡ Some safe) × (length held + length bytes ≤ safe))
+    IfSome before.held (λ held. (safe : ℕ) × (after.safe ≡ Some safe)
+    × (length held + length bytes ≤ safe))
 
 -- One event was kept and served whole, with so many messages kept before and after.
 pub record IsKeptEvent (room : RoomState) (count : ℕ) (event : LinkEvent) (new : RoomState)
@@ -72,7 +73,8 @@ IsStoppedBy count room last new Memory = IsCutKept count room last new
 IsStoppedBy count room last new other = ⊥
 
 -- what the journal took of the message that came last, and how much of it is safe
-pub record IsLastTaken (last : Last) (journal journal_after : SinkEnd) (end : KeepEnd) : Type 0 where
+pub record IsLastTaken (last : Last) (journal journal_after : SinkEnd) (end : KeepEnd) :
+    Type 0 where
   pub gained : HasGained (map update_record last.messages) journal journal_after
   pub whole : end ≢ JournalFault → Took journal journal_after (message_bytes last.messages)
   pub safe : IsSafeBy journal journal_after (message_bytes (told_last last.tries last.messages))
@@ -107,5 +109,6 @@ pub record IsKeptOn (limits : RoomLimits) (now : Serving) (count : ℕ) (new : R
   pub is : IsAccount limits now count new end account
   pub told : Tells links links_after (events_in account) (tries_in account)
   pub gained : HasGained (map update_record (messages_heard account)) journal journal_after
-  pub whole : end ≢ JournalFault → Took journal journal_after (message_bytes (messages_heard account))
+  pub whole : end ≢ JournalFault
+      → Took journal journal_after (message_bytes (messages_heard account))
   pub safe : IsSafeBy journal journal_after (message_bytes (messages_told account))

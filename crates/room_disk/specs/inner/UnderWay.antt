@@ -18,7 +18,8 @@ pub record HasTakenLine (old : List ElementValue) (line : List ℕ)
   pub taken : (updates : List ElementValue) → AreStored updates old
       → AreStored (updates ++ elements) new
 
--- The lines are faultless and so many, and this is what they were read as; or this is the first fault that was met.
+-- The lines are faultless and so many, and this is what they were read as; or this is the first
+-- fault that was met.
 abbrev pub IsReadBy : List (List ℕ) → Heading → List ElementValue → ℕ → Option KeepFault → Type 0
 IsReadBy lines head elements count None = AreKept lines head elements × (count ≡ length lines)
 IsReadBy lines head elements count (Some fault) = AreReadAs lines (Err fault)

@@ -1,4 +1,5 @@
--- What is taken of a scene's object before it is known to be a scene's. Only contracts of private functions cite this.
+-- What is taken of a scene's object before it is known to be a scene's. Only contracts of private
+-- functions cite this.
 use Rattle.std.specs.Prelude.{◌≡◌, ℕ, List, Option, Some, None, Result, Ok, Err, false, codes, bytes_eq}
 use Rattle.json_text.specs.Compact.{Member as Pair}
 use Rattle.json_text.specs.Parts.{AreMembers}
@@ -15,9 +16,11 @@ HaveCome values (Ok elements) = AreRead values elements
 HaveCome values (Err faulty) = IsFirstFaulty values faulty.place faulty.fault
 
 -- These are the items under `elements`, and this came of them; or no items are there.
-abbrev pub AreItemsRead : Option (List ℕ) → Option (Result (List ElementValue) FaultyElement) → Type 0
+abbrev pub AreItemsRead : Option (List ℕ) → Option (Result (List ElementValue) FaultyElement)
+    → Type 0
 AreItemsRead value None = (values : List (List ℕ)) → HasItems value values → ⊥
-AreItemsRead value (Some read) = (values : List (List ℕ)) × HasItems value values × HaveCome values read
+AreItemsRead value (Some read) =
+    (values : List (List ℕ)) × HasItems value values × HaveCome values read
 
 -- The text is that of an object, which has these members but for its elements, of which this came.
 pub record IsTaken (text : List ℕ) (found : List Pair)
@@ -25,5 +28,6 @@ pub record IsTaken (text : List ℕ) (found : List Pair)
   pub members : List Pair
   pub object : IsObject text members
   pub are : AreMembers 127 found
-  pub others : (name : List ℕ) → bytes_eq name (codes "elements") ≡ false → value_at name found ≡ value_at name members
+  pub others : (name : List ℕ) → bytes_eq name (codes "elements") ≡ false
+      → value_at name found ≡ value_at name members
   pub elements : AreItemsRead (value_unless_null (codes "elements") members) read

@@ -8,6 +8,8 @@ abbrev pub invariant-loop-item : goal.invariant-loop-item
 invariant-loop-item g l =
     (length (into_iter_items l.values) + l.item-index ≡ length l.item-items)
     × ((made : g.row.A.Denot → g.row.B.Denot → g.row.A.Denot)
-    → ((before : _) (value : _) (after : _) → goal.F-post g l.change before value _ after → after.now ≡ made before.now value)
+    → ((before : _) (value : _) (after : _) → goal.F-post g l.change before value _ after
+    → after.now ≡ made before.now value)
     → map (λ p. made p.0 p.1) (zip l.initial.item-items (into_iter_items l.initial.values))
-    ≡ take l.item-index l.item-items ++ map (λ p. made p.0 p.1) (zip (drop l.item-index l.item-items) (into_iter_items l.values)))
+    ≡ take l.item-index l.item-items ++ map (λ p. made p.0 p.1)
+    (zip (drop l.item-index l.item-items) (into_iter_items l.values)))

@@ -6,7 +6,8 @@ use Rattle.std.specs.Cmp.Lexicographic.{slice_cmp}
 use Rattle.board_base.proofs.order.bytes_order.Goals as goal
 
 -- behind the shorter one's bytes the lengths decide
-past-shorter : (i : ℕ) (a b : List ℕ) → i ≡ min (length a) (length b) → nat_cmp (length a) (length b) ≡ slice_cmp nat_cmp (drop i a) (drop i b)
+past-shorter : (i : ℕ) (a b : List ℕ) → i ≡ min (length a) (length b)
+    → nat_cmp (length a) (length b) ≡ slice_cmp nat_cmp (drop i a) (drop i b)
 past-shorter zero [] [] e = refl
 past-shorter zero [] (y ∷ b) e = grind (arith, nat_tests)
 past-shorter zero (x ∷ a) [] e = grind (arith, nat_tests)

@@ -7,5 +7,6 @@ use Rattle.board_ends.proofs.whole.read_all.Goals as goal
 pub returns-in_err-append_next-clause-stopped : goal.returns-in_err-append_next-clause-stopped
 returns-in_err-append_next-clause-stopped g c =
     let some = Gave-part _ _ _ _ _ _ c.loop-all.invariant.given c.in_err-append_next.ensures.stopped in
-    let p = err_from_is_err_and c.from_residual-in_err-append_next.result c.from_residual-in_err-append_next.ensures.1 in
+    let p =
+    err_from_is_err_and c.from_residual-in_err-append_next.result c.from_residual-in_err-append_next.ensures.1 in
     rw p.1 (some.0, omega (arith, some.1, length-take {A = ℕ}, c.min-wanted.ensures, c.loop-all.all.ok.0), some.2)

@@ -16,7 +16,8 @@ take-requires c =
     let i = c.loop-file.file-index in
     let here : m ≡ get_or c.args.files.now i m = cc in
     let within : i < length c.args.files.now = omega (arith, ap length c.as_slice-file-items.ensures) in
-    subst (λ (copy : Member). IsCompact 126 copy.value) (sym c.in_ok-copy.ensures) (nests-at 126 c.args.files.now i m c.requires within here)
+    subst (λ (copy : Member). IsCompact 126 copy.value) (sym c.in_ok-copy.ensures)
+    (nests-at 126 c.args.files.now i m c.requires within here)
 
 pub loop-file-preserved : goal.loop-file-preserved
 loop-file-preserved c =
@@ -24,9 +25,11 @@ loop-file-preserved c =
     let i = c.loop-file.file-index in
     let here : m ≡ get_or c.args.files.now i m = cc in
     let within : i < length c.args.files.now = omega (arith, ap length c.as_slice-file-items.ensures) in
-    table-more c.args.files.now i m c.in_ok-copy.copy _ _ within here c.in_ok-copy.ensures c.loop-file.invariant c.in_ok-take.ensures.taken
+    table-more c.args.files.now i m c.in_ok-copy.copy _ _ within here c.in_ok-copy.ensures c.loop-file.invariant
+    c.in_ok-take.ensures.taken
 
 pub returns : goal.returns
 returns c =
-    let all = take_all c.loop-file.file-index c.args.files.now (omega (arith, ap length c.as_slice-file-items.ensures)) in
+    let all =
+    take_all c.loop-file.file-index c.args.files.now (omega (arith, ap length c.as_slice-file-items.ensures)) in
     subst (λ ms. AreLeastEntries (pairs ms) c.loop-file.table) all c.loop-file.invariant

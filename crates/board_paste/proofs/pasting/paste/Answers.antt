@@ -14,9 +14,11 @@ returns-clause-stored c = λ updates before.
     let copies : c.in_ok-copied.copied ≡ copies_of c.args.clip.now.elements c.args.prefix.now =
     c.in_ok-copied.ensures.exact ∙ ap (λ list. copies_of list c.args.prefix.now) c.as_slice.ensures in
     let all : c.in_ok-pasted.pasted ≡ pasted stored c.args.clip.now.elements c.args.prefix.now =
-    c.in_ok-pasted.ensures ∙ ap (λ list. keyed list (keys_between (last_key (shown (live_elements stored))) None (length list))) copies in
+    c.in_ok-pasted.ensures
+    ∙ ap (λ list. keyed list (keys_between (last_key (shown (live_elements stored))) None (length list))) copies in
     subst (λ more. AreStored (updates ++ more) c.take_all.new.self.elements) all
     (c.take_all.ensures updates (subst (AreStored updates) (sym c.in_ok-reserve.ensures.elements) before))
 
 pub returns-clause-head : goal.returns-clause-head
-returns-clause-head c = record { clip = c.in_ok-own.own; own = c.in_ok-own.ensures; joined = c.in_ok-join.ensures.joined }
+returns-clause-head c =
+    record { clip = c.in_ok-own.own; own = c.in_ok-own.ensures; joined = c.in_ok-join.ensures.joined }

@@ -20,46 +20,68 @@ unfolding quote
 returns-then-not-has_value-clause-fault c = λ fault e.
     let value = c.args.value.now in
     let members = pairs c.in-Some.found in
-    let found : c.members.result ≡ Ok c.in-Some.found = c.shaped.ensures.found c.in-Some.found (c.in_ok-found.was ∙ ap Ok c.in-Some.is) in
-    let object = is-object value members (IfOk-at_ok _ found c.members.ensures.spelled) (IfOk-at_ok _ found c.members.ensures.kept) in
-    subst (IsClipFault value) (fault-same _ NotClip fault e) (members, object, λ kind. both_ways _ refl (c.if-not-has_value.ensures.1 kind.1))
+    let found : c.members.result ≡ Ok c.in-Some.found =
+    c.shaped.ensures.found c.in-Some.found (c.in_ok-found.was ∙ ap Ok c.in-Some.is) in
+    let object = is-object value members (IfOk-at_ok _ found c.members.ensures.spelled)
+    (IfOk-at_ok _ found c.members.ensures.kept) in
+    subst (IsClipFault value) (fault-same _ NotClip fault e) (
+      members,
+      object,
+      λ kind. both_ways _ refl (c.if-not-has_value.ensures.1 kind.1),
+    )
 
 pub returns-in_default-2-clause-fault : goal.returns-in_default-2-clause-fault
 unfolding quote
 returns-in_default-2-clause-fault c = λ fault e.
     let value = c.args.value.now in
     let members = pairs c.in-Some.found in
-    let found : c.members.result ≡ Ok c.in-Some.found = c.shaped.ensures.found c.in-Some.found (c.in_ok-found.was ∙ ap Ok c.in-Some.is) in
-    let object = is-object value members (IfOk-at_ok _ found c.members.ensures.spelled) (IfOk-at_ok _ found c.members.ensures.kept) in
+    let found : c.members.result ≡ Ok c.in-Some.found =
+    c.shaped.ensures.found c.in-Some.found (c.in_ok-found.was ∙ ap Ok c.in-Some.is) in
+    let object = is-object value members (IfOk-at_ok _ found c.members.ensures.spelled)
+    (IfOk-at_ok _ found c.members.ensures.kept) in
     let kind = is-clipboard members (c.if-not-has_value.ensures.0 refl) in
     let none : c.in_ok-values.field-0 ≡ None = cc in
-    subst (IsClipFault value) (fault-same _ Elements fault e) (members, object, kind, MatchOption-at_none _ _ none c.in_ok-values.ensures)
+    subst (IsClipFault value) (fault-same _ Elements fault e) (
+      members,
+      object,
+      kind,
+      MatchOption-at_none _ _ none c.in_ok-values.ensures,
+    )
 
 pub returns-in_default-3-clause-fault : goal.returns-in_default-3-clause-fault
 unfolding quote
 returns-in_default-3-clause-fault c = λ fault e.
     let value = c.args.value.now in
     let members = pairs c.in-Some.found in
-    let found : c.members.result ≡ Ok c.in-Some.found = c.shaped.ensures.found c.in-Some.found (c.in_ok-found.was ∙ ap Ok c.in-Some.is) in
-    let object = is-object value members (IfOk-at_ok _ found c.members.ensures.spelled) (IfOk-at_ok _ found c.members.ensures.kept) in
+    let found : c.members.result ≡ Ok c.in-Some.found =
+    c.shaped.ensures.found c.in-Some.found (c.in_ok-found.was ∙ ap Ok c.in-Some.is) in
+    let object = is-object value members (IfOk-at_ok _ found c.members.ensures.spelled)
+    (IfOk-at_ok _ found c.members.ensures.kept) in
     let kind = is-clipboard members (c.if-not-has_value.ensures.0 refl) in
     let items = MatchOption-at_some _ _ c.in-Some-2.values c.in-Some-2.is c.in_ok-values.ensures in
     let none : c.in_ok-files.field-0 ≡ None = cc in
-    subst (IsClipFault value) (fault-same _ Files fault e)
-    (members, c.in-Some-2.values, record { object = object; kind = kind; items = items }, MatchOption-at_none _ _ none c.in_ok-files.ensures)
+    subst (IsClipFault value) (fault-same _ Files fault e) (
+      members,
+      c.in-Some-2.values,
+      record { object = object; kind = kind; items = items },
+      MatchOption-at_none _ _ none c.in_ok-files.ensures,
+    )
 
 pub returns-in_err-placed-clause-fault : goal.returns-in_err-placed-clause-fault
 unfolding quote
 returns-in_err-placed-clause-fault c =
     let value = c.args.value.now in
     let members = pairs c.in-Some.found in
-    let found : c.members.result ≡ Ok c.in-Some.found = c.shaped.ensures.found c.in-Some.found (c.in_ok-found.was ∙ ap Ok c.in-Some.is) in
-    let object = is-object value members (IfOk-at_ok _ found c.members.ensures.spelled) (IfOk-at_ok _ found c.members.ensures.kept) in
+    let found : c.members.result ≡ Ok c.in-Some.found =
+    c.shaped.ensures.found c.in-Some.found (c.in_ok-found.was ∙ ap Ok c.in-Some.is) in
+    let object = is-object value members (IfOk-at_ok _ found c.members.ensures.spelled)
+    (IfOk-at_ok _ found c.members.ensures.kept) in
     let kind = is-clipboard members (c.if-not-has_value.ensures.0 refl) in
     let items = MatchOption-at_some _ _ c.in-Some-2.values c.in-Some-2.is c.in_ok-values.ensures in
     let files = MatchOption-at_some _ _ c.in-Some-3.files c.in-Some-3.is c.in_ok-files.ensures in
     let p = err_from_is_err_and c.from_residual-in_err-placed.result c.from_residual-in_err-placed.ensures.1 in
-    rw (p.1, p.2) (λ fault e. elements-fault value members c.in-Some-2.values (pairs c.in-Some-3.files) fault (record { object = object; kind = kind; items = items }) files
+    rw (p.1, p.2) (λ fault e. elements-fault value members c.in-Some-2.values (pairs c.in-Some-3.files) fault
+    (record { object = object; kind = kind; items = items }) files
     (c.in_err-placed.ensures.fault fault (ap Err (stop-same _ _ _ e))))
 
 pub returns-clause-clip : goal.returns-clause-clip
@@ -67,8 +89,10 @@ unfolding quote
 returns-clause-clip c =
     let value = c.args.value.now in
     let members = pairs c.in-Some.found in
-    let found : c.members.result ≡ Ok c.in-Some.found = c.shaped.ensures.found c.in-Some.found (c.in_ok-found.was ∙ ap Ok c.in-Some.is) in
-    let object = is-object value members (IfOk-at_ok _ found c.members.ensures.spelled) (IfOk-at_ok _ found c.members.ensures.kept) in
+    let found : c.members.result ≡ Ok c.in-Some.found =
+    c.shaped.ensures.found c.in-Some.found (c.in_ok-found.was ∙ ap Ok c.in-Some.is) in
+    let object = is-object value members (IfOk-at_ok _ found c.members.ensures.spelled)
+    (IfOk-at_ok _ found c.members.ensures.kept) in
     let live = c.in_ok-placed.ensures.read in
     record {
       members = members;
@@ -87,7 +111,8 @@ returns-clause-clip c =
 pub returns-clause-distinct : goal.returns-clause-distinct
 returns-clause-distinct c =
     let live = c.in_ok-placed.ensures.read in
-    subst HaveDistinctIds (sym (c.in_ok-parts.ensures.0 ∙ ap elements_in live.live_is)) ((repeat-none _).0 live.distinct)
+    subst HaveDistinctIds (sym (c.in_ok-parts.ensures.0 ∙ ap elements_in live.live_is))
+    ((repeat-none _).0 live.distinct)
 
 pub returns-clause-whole : goal.returns-clause-whole
 returns-clause-whole c = subst (All IsWholeElement) (sym c.in_ok-parts.ensures.0) c.in_ok-placed.ensures.whole
@@ -95,6 +120,7 @@ returns-clause-whole c = subst (All IsWholeElement) (sym c.in_ok-parts.ensures.0
 pub returns-clause-files : goal.returns-clause-files
 returns-clause-files c =
     let members = pairs c.in-Some.found in
-    let found : c.members.result ≡ Ok c.in-Some.found = c.shaped.ensures.found c.in-Some.found (c.in_ok-found.was ∙ ap Ok c.in-Some.is) in
+    let found : c.members.result ≡ Ok c.in-Some.found =
+    c.shaped.ensures.found c.in-Some.found (c.in_ok-found.was ∙ ap Ok c.in-Some.is) in
     (nests-given (codes "files") members (pairs c.in-Some-3.files) (IfOk-at_ok _ found c.members.ensures.kept)
     (MatchOption-at_some _ _ c.in-Some-3.files c.in-Some-3.is c.in_ok-files.ensures)).valued

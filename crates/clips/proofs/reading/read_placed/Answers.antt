@@ -32,10 +32,12 @@ loop-place-preserved c =
     elim c.match-read.branch [
       | in-Some+in_ok-push w ↦ rw w.placed-is
           (let read = MatchOption-at_some _ _ w.in-Some.element w.in-Some.is c.in_ok-read.ensures.read in
-          read-more values i v c.loop-place.placed.items w.push.new.self.items w.in-Some.element within at c.loop-place.invariant read.0 read.1 w.in_ok-push.ensures.items)
+          read-more values i v c.loop-place.placed.items w.push.new.self.items w.in-Some.element within at
+          c.loop-place.invariant read.0 read.1 w.in_ok-push.ensures.items)
       | in_default w ↦ rw w.placed-is
           (let none : c.in_ok-read.read ≡ None = cc in
-          dropped-more values i v c.loop-place.placed.items within at c.loop-place.invariant (MatchOption-at_none _ _ none c.in_ok-read.ensures.read))
+          dropped-more values i v c.loop-place.placed.items within at c.loop-place.invariant
+          (MatchOption-at_none _ _ none c.in_ok-read.ensures.read))
     ]
 
 pub returns-clause-whole : goal.returns-clause-whole
@@ -43,4 +45,5 @@ returns-clause-whole c =
     let values = c.args.values.now in
     let all = take_all c.loop-place.place values (omega (arith, ap length c.as_slice-value-items.ensures)) in
     subst (λ placed. All IsWholeElement (elements_in placed)) (sym c.from_vec.ensures)
-    (placed-whole values c.loop-place.placed.items (subst (λ vs. AreReadFrom 0 vs c.loop-place.placed.items) all c.loop-place.invariant))
+    (placed-whole values c.loop-place.placed.items (subst (λ vs. AreReadFrom 0 vs c.loop-place.placed.items) all
+    c.loop-place.invariant))

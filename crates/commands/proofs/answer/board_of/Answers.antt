@@ -7,5 +7,6 @@ use Rattle.commands.proofs.answer.board_of.Goals as goal
 pub returns : goal.returns
 returns c = record {
   joined = c.in_ok-join.ensures.joined [] (subst (IsJoinedHead []) (sym c.new-head.ensures) nothing-joined);
-  stores = subst (λ es. AreStored es c.in_ok-store.store.elements) (sym (append-nil c.args.scene.elements)) c.in_ok-store.ensures;
+  stores = subst (λ es. AreStored es c.in_ok-store.store.elements) (sym (append-nil c.args.scene.elements))
+      c.in_ok-store.ensures;
 }

@@ -7,4 +7,9 @@ returns c =
     let session = c.args.session.now in
     let text = c.in_ok-report_text.field-0 in
     IfOk-weaker c.ended.result _ _
-    (λ made ended. (text, report-is_text session c.in_ok-report.report text c.in_ok-report.ensures c.in_ok-report_text.ensures, ended)) c.ended.ensures
+    (λ made ended. (
+      text,
+      report-is_text session c.in_ok-report.report text c.in_ok-report.ensures
+          c.in_ok-report_text.ensures,
+      ended,
+    )) c.ended.ensures

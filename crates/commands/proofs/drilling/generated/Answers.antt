@@ -12,4 +12,5 @@ unreachable-requires c =
     let same : c.as_slice.result.now ≡ drill_text seed events = c.as_slice.ensures ∙ c.in_ok-text.ensures in
     c.reading_is_unique.ensures.faultless (drill_text seed events) (drill_session seed events) found
     (c.drill_is_read.ensures.read seed events c.requires.seed c.requires.most)
-    (subst (λ bytes. IsSessionFault bytes found) same (c.read_session.ensures.fault found (c.in-Err-Fault.is ∙ ap Err c.in-Err-Fault.field-0-is)))
+    (subst (λ bytes. IsSessionFault bytes found) same (c.read_session.ensures.fault found (c.in-Err-Fault.is
+    ∙ ap Err c.in-Err-Fault.field-0-is)))

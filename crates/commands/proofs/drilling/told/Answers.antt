@@ -14,5 +14,6 @@ returns c =
       read = c.in_ok-session.ensures.read;
       clashes = report.clashes;
       counted = c.in_ok-report.ensures.clashes;
-      told = made ∙ ap (summary_text c.args.drill) (report-summed session (last_world session) report c.in_ok-report.ensures);
+      told = made
+          ∙ ap (summary_text c.args.drill) (report-summed session (last_world session) report c.in_ok-report.ensures);
     }) c.summary.ensures

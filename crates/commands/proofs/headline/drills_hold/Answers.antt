@@ -20,8 +20,10 @@ returns c drill text is drilled =
     let what = subst (IsDrill seed events) one (laws.drill seed events) in
     let within = c.sessions_keep_limits.ensures _ session drilled.read in
     let whole = sym (c.all_events_lead_to_the_last_world.ensures session) in
-    let free : HaveClashes [] (all_elements session w) 0 = subst (λ (w : World). HaveClashes [] (all_elements session w) 0) (sym whole)
-    (c.sessions_without_updates_have_no_clash.ensures.none session within (drill-own seed events session what) (unopened session what.scene) (length session.events)) in
+    let free : HaveClashes [] (all_elements session w) 0 =
+    subst (λ (w : World). HaveClashes [] (all_elements session w) 0) (sym whole)
+    (c.sessions_without_updates_have_no_clash.ensures.none session within (drill-own seed events session what)
+    (unopened session what.scene) (length session.events)) in
     let same = λ (s other : Seat) (among : Contains w.seats s) (also : Contains w.seats other).
     (c.replicas_hold.ensures.told_all_store_the_same _ session drilled.read
     (drill-unheld seed events session what) (drill-told seed events session what laws.all) s other among also).1 in

@@ -15,7 +15,8 @@ take-requires c =
     let i = c.loop-member.member-index in
     let here : m ≡ get_or c.args.members.now i m = cc in
     let within : i < length c.args.members.now = omega (arith, ap length c.as_slice-member-items.ensures) in
-    subst (λ (copy : Member). IsCompact 126 copy.value) (sym c.in_ok-copy.ensures) (nests-at 126 c.args.members.now i m c.requires within here)
+    subst (λ (copy : Member). IsCompact 126 copy.value) (sym c.in_ok-copy.ensures)
+    (nests-at 126 c.args.members.now i m c.requires within here)
 
 pub loop-member-preserved : goal.loop-member-preserved
 loop-member-preserved c =
@@ -23,9 +24,12 @@ loop-member-preserved c =
     let i = c.loop-member.member-index in
     let here : m ≡ get_or c.args.members.now i m = cc in
     let within : i < length c.args.members.now = omega (arith, ap length c.as_slice-member-items.ensures) in
-    λ given are. table-more given c.args.members.now i m c.in_ok-copy.copy _ _ within here c.in_ok-copy.ensures (c.loop-member.invariant given are) c.in_ok-take.ensures.taken
+    λ given are. table-more given c.args.members.now i m c.in_ok-copy.copy _ _ within here c.in_ok-copy.ensures
+    (c.loop-member.invariant given are) c.in_ok-take.ensures.taken
 
 pub returns : goal.returns
 returns c =
-    let all = take_all c.loop-member.member-index c.args.members.now (omega (arith, ap length c.as_slice-member-items.ensures)) in
-    λ given are. subst (λ ms. AreLeastEntries (given ++ pairs ms) c.loop-member.table) all (c.loop-member.invariant given are)
+    let all = take_all c.loop-member.member-index c.args.members.now
+    (omega (arith, ap length c.as_slice-member-items.ensures)) in
+    λ given are. subst (λ ms. AreLeastEntries (given ++ pairs ms) c.loop-member.table) all
+    (c.loop-member.invariant given are)

@@ -19,17 +19,20 @@ returns-in-Some-clause-fault g c =
     let read = c.in_ok-found.ensures.read in
     let state = c.read_input.new.reader.feed in
     let same : session_refusal_of (texts_in state + 1) c.in-Some.stopped ≡ c.session_refused.result =
-    ap (λ n. session_refusal_of (n + 1) c.in-Some.stopped) (sym c.texts-number.ensures) ∙ sym c.session_refused.ensures in (
+    ap (λ n. session_refusal_of (n + 1) c.in-Some.stopped) (sym c.texts-number.ensures)
+    ∙ sym c.session_refused.ensures in (
       read.0,
       read.1,
       subst (IsSessionRefusal read.0) same
-          (session-refused read.0 state c.in-Some.stopped (subst (AreRead read.0 (session_seen state)) c.in-Some.is read.2)),
+          (session-refused read.0 state c.in-Some.stopped (subst (AreRead read.0 (session_seen state)) c.in-Some.is
+          read.2)),
     )
 
 pub returns-clause-session : goal.returns-clause-session
 returns-clause-session g c =
     let read = c.in_ok-found.ensures.read in
-    let one : c.read_input.new.reader.feed ≡ Some c.in-Some-finish.session = sym c.finish.ensures.session ∙ c.in-Some-finish.is in (
+    let one : c.read_input.new.reader.feed ≡ Some c.in-Some-finish.session =
+    sym c.finish.ensures.session ∙ c.in-Some-finish.is in (
       read.0,
       read.1,
       session-read read.0 c.in-Some-finish.session (subst (λ seen. HasTexts read.0 (session_seen seen)) one

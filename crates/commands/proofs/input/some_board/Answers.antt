@@ -18,9 +18,12 @@ returns-clause-board g c =
     let so_far = c.read_input.new.reader in (
       read.0,
       read.1,
-      subst (λ (seen : BoardSoFar). (scenes : List Scene) × HasScenes read.0 scenes × IsBoardOf scenes c.in_ok-head.head seen.stored) (sym c.gathered.view_is)
-          (board-read read.0 so_far c.in_ok-head.head (subst (AreRead read.0 (board_seen so_far)) c.in_default.is read.2)
-          (subst (λ (seen : BoardSoFar). (heads : List Heading) → AreJoined heads seen.heads → IsJoinedHead heads c.in_ok-head.head) c.gathered.view_is c.in_ok-head.ensures)),
+      subst (λ (seen : BoardSoFar). (scenes : List Scene) × HasScenes read.0 scenes
+          × IsBoardOf scenes c.in_ok-head.head seen.stored) (sym c.gathered.view_is)
+          (board-read read.0 so_far c.in_ok-head.head (subst (AreRead read.0 (board_seen so_far)) c.in_default.is
+          read.2)
+          (subst (λ (seen : BoardSoFar). (heads : List Heading) → AreJoined heads seen.heads
+          → IsJoinedHead heads c.in_ok-head.head) c.gathered.view_is c.in_ok-head.ensures)),
     )
 
 pub returns-in_err-found-clause-fault : goal.returns-in_err-found-clause-fault
@@ -32,9 +35,11 @@ pub returns-in-Some-clause-fault : goal.returns-in-Some-clause-fault
 returns-in-Some-clause-fault g c =
     let read = c.in_ok-found.ensures.read in
     let so_far = c.read_input.new.reader in
-    let refused = board-refused read.0 so_far c.in-Some.stopped (subst (AreRead read.0 (board_seen so_far)) c.in-Some.is read.2) in (
+    let refused = board-refused read.0 so_far c.in-Some.stopped
+    (subst (AreRead read.0 (board_seen so_far)) c.in-Some.is read.2) in (
       read.0,
       read.1,
       subst (IsRefusal read.0) (sym c.refused.ensures)
-          (subst (λ (seen : BoardSoFar). IsRefusal read.0 (refusal_of seen.next c.in-Some.stopped)) (sym c.gathered.view_is) refused),
+          (subst (λ (seen : BoardSoFar). IsRefusal read.0 (refusal_of seen.next c.in-Some.stopped))
+          (sym c.gathered.view_is) refused),
     )

@@ -21,7 +21,8 @@ returns-in-None-clause-shelf g c =
     let so_far = c.read_input.new.reader in (
       read.0,
       read.1,
-      subst (λ (seen : ShelfSoFar). (texts : List (List ℕ)) × (items : List Item) × HasTexts read.0 texts × HaveItems texts items × AreBest items seen.best) (sym c.shelved.view_is)
+      subst (λ (seen : ShelfSoFar). (texts : List (List ℕ)) × (items : List Item) × HasTexts read.0 texts
+          × HaveItems texts items × AreBest items seen.best) (sym c.shelved.view_is)
           (shelf-read read.0 so_far (subst (AreRead read.0 (shelf_seen so_far)) c.in-None.is read.2)),
     )
 
@@ -29,9 +30,11 @@ pub returns-in-Some-clause-fault : goal.returns-in-Some-clause-fault
 returns-in-Some-clause-fault g c =
     let read = c.in_ok-found.ensures.read in
     let so_far = c.read_input.new.reader in
-    let refused = shelf-refused read.0 so_far c.in-Some.stopped (subst (AreRead read.0 (shelf_seen so_far)) c.in-Some.is read.2) in (
+    let refused = shelf-refused read.0 so_far c.in-Some.stopped
+    (subst (AreRead read.0 (shelf_seen so_far)) c.in-Some.is read.2) in (
       read.0,
       read.1,
       subst (IsShelfRefusal read.0) (sym c.shelf_refused.ensures)
-          (subst (λ (seen : ShelfSoFar). IsShelfRefusal read.0 (shelf_refusal_of seen.next c.in-Some.stopped)) (sym c.shelved.view_is) refused),
+          (subst (λ (seen : ShelfSoFar). IsShelfRefusal read.0 (shelf_refusal_of seen.next c.in-Some.stopped))
+          (sym c.shelved.view_is) refused),
     )

@@ -13,14 +13,17 @@ use Rattle.commands.proofs.keeping.begun.Goals as goal
 pub returns-in-Scenes-clause-whole : goal.returns-in-Scenes-clause-whole
 returns-in-Scenes-clause-whole g c =
     IfOk-weaker c.some_board.result _ _
-    (λ begun is. let whole = board-whole is.0 is.2.0 begun.0 begun.1.elements is.2.1 is.2.2 in (whole.head_whole, (whole.whole, whole.keys))) c.some_board.ensures.board
+    (λ begun is. let whole = board-whole is.0 is.2.0 begun.0 begun.1.elements is.2.1 is.2.2 in
+    (whole.head_whole, (whole.whole, whole.keys))) c.some_board.ensures.board
 
 pub returns-in_ok-resume-in-Journal-clause-begun : goal.returns-in_ok-resume-in-Journal-clause-begun
 returns-in_ok-resume-in-Journal-clause-begun g c =
     let read = c.in_ok-head-in-Journal.ensures.recovered in
     let head = c.in_ok-head-in-Journal.head in
     let begun : Begun = record { head = head; stored = c.in_ok-resume-in-Journal.field-0.elements } in
-    subst (λ (begins : Begins). (bytes : List ℕ) × WasRead (limit_from begins) (span (g.S.Source.seen c.args.input.now) (g.S.Source.seen c.recovered.new.input)) bytes
+    subst (λ (begins : Begins). (bytes : List ℕ)
+    × WasRead (limit_from begins) (span (g.S.Source.seen c.args.input.now) (g.S.Source.seen c.recovered.new.input))
+    bytes
     × BeginsWith begins bytes begun) (sym c.in-Journal.is) (
       read.0,
       read.1,
@@ -38,7 +41,8 @@ returns-in_ok-resume-in-Journal-clause-whole g c =
     let is = sym c.in_ok-resume-in-Journal.ensures in (
       c.recovered_is_whole.ensures.head read.0 _ read.2,
       (
-        subst (All IsWholeElement) is (c.resumed_elements_have_keys.ensures.whole elements (c.recovered_is_whole.ensures.elements read.0 _ read.2)),
+        subst (All IsWholeElement) is (c.resumed_elements_have_keys.ensures.whole elements
+            (c.recovered_is_whole.ensures.elements read.0 _ read.2)),
         subst HaveKeys is (c.resumed_elements_have_keys.ensures.keys elements),
       ),
     )

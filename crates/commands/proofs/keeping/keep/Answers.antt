@@ -12,9 +12,12 @@ returns-clause-kept g c =
       begun = record { head = c.in_ok-head.head; stored = c.in_ok-head.store.elements };
       begins = begun.2;
       last = c.keep_room-end.new.room.state;
-      kept = subst (λ (state : RoomState). (IsUnopened c.in_ok-head.head state c.keep_room-end.new.room.state (g.L.Links.seen c.args.links.now) (g.L.Links.seen c.keep_room-end.new.links)
+      kept =
+          subst (λ (state : RoomState). (IsUnopened c.in_ok-head.head state c.keep_room-end.new.room.state
+          (g.L.Links.seen c.args.links.now) (g.L.Links.seen c.keep_room-end.new.links)
           (g.K.Sink.seen c.args.output.now) (g.K.Sink.seen c.keep_room-end.new.journal) c.keep_room-end.result)
-          ⊎ (IsKept c.args.keeping.limits c.in_ok-head.head c.args.keeping.port state c.keep_room-end.new.room.state (g.L.Links.seen c.args.links.now) (g.L.Links.seen c.keep_room-end.new.links)
+          ⊎ (IsKept c.args.keeping.limits c.in_ok-head.head c.args.keeping.port state c.keep_room-end.new.room.state
+          (g.L.Links.seen c.args.links.now) (g.L.Links.seen c.keep_room-end.new.links)
           (g.K.Sink.seen c.args.output.now) (g.K.Sink.seen c.keep_room-end.new.journal) c.keep_room-end.result))
           c.new-room.ensures c.keep_room-end.ensures.kept;
       link_rose = c.keep_room-end.ensures.fault;

@@ -7,4 +7,5 @@ use Rattle.commands.proofs.running.drill_run.Goals as goal
 pub returns-in-Err-clause-complete : goal.returns-in-Err-clause-complete
 returns-in-Err-clause-complete g c kept =
     subst (λ (s : Status). (s ≡ Done) ⊎ (s ≡ Memory)) (sym c.noted.ensures.status)
-    (drilled-whole c.in-Err.fault _ _ c.in-Err.ensures.only (λ wrote. (c.in-Err.ensures.write_fault (ap Err wrote)).1) kept)
+    (drilled-whole c.in-Err.fault _ _ c.in-Err.ensures.only (λ wrote. (c.in-Err.ensures.write_fault (ap Err wrote)).1)
+    kept)

@@ -15,4 +15,8 @@ returns-in-Err-clause-kept g c =
     let notes = span (g.N.Sink.seen c.args.notes.now) (g.N.Sink.seen c.noted.new.notes) in
     subst (EndsKeeping c.args.keeping _ notes) (sym c.noted.ensures.status)
     (ends-unkept c.args.keeping _ notes c.in-Err.fault c.in-Err.ensures.fault
-    (record { output = ap g.K.Sink.seen c.in-Err.ensures.output_kept; links = ap g.L.Links.seen c.in-Err.ensures.links_kept }) c.noted.ensures.noted)
+    (record {
+      output = ap g.K.Sink.seen c.in-Err.ensures.output_kept;
+      links =
+          ap g.L.Links.seen c.in-Err.ensures.links_kept;
+    }) c.noted.ensures.noted)

@@ -13,7 +13,8 @@ returns-in-Ok-clause-served g c =
 
 pub returns-in-Ok-clause-complete : goal.returns-in-Ok-clause-complete
 returns-in-Ok-clause-complete g c bytes scenes left has none leads =
-    served-whole c.closing_ends_a_room.ensures c.args.service _ (span (g.N.Sink.seen c.args.notes.now) (g.N.Sink.seen c.noted_end.new.notes)) bytes scenes left has none leads
+    served-whole c.closing_ends_a_room.ensures c.args.service _
+    (span (g.N.Sink.seen c.args.notes.now) (g.N.Sink.seen c.noted_end.new.notes)) bytes scenes left has none leads
     c.noted_end.result (returns-in-Ok-clause-served g c)
 
 pub returns-in-Err-clause-served : goal.returns-in-Err-clause-served
@@ -24,5 +25,6 @@ returns-in-Err-clause-served g c =
 
 pub returns-in-Err-clause-complete : goal.returns-in-Err-clause-complete
 returns-in-Err-clause-complete g c bytes scenes left has none leads =
-    served-whole c.closing_ends_a_room.ensures c.args.service _ (span (g.N.Sink.seen c.args.notes.now) (g.N.Sink.seen c.noted.new.notes)) bytes scenes left has none leads
+    served-whole c.closing_ends_a_room.ensures c.args.service _
+    (span (g.N.Sink.seen c.args.notes.now) (g.N.Sink.seen c.noted.new.notes)) bytes scenes left has none leads
     c.noted.result (returns-in-Err-clause-served g c)

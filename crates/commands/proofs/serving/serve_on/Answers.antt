@@ -17,14 +17,20 @@ returns-in-Ok-clause-listens g c whole = record {
 
 pub returns-in-Err-Failed-clause-served : goal.returns-in-Err-Failed-clause-served
 returns-in-Err-Failed-clause-served g c =
-    failed-at_once c.args.service c.args.room.now.state _ _ (tells-nothing _ _ c.listen.ensures.given c.listen.ensures.sent c.listen.ensures.lost) c.requires.service
+    failed-at_once c.args.service c.args.room.now.state _ _
+    (tells-nothing _ _ c.listen.ensures.given c.listen.ensures.sent c.listen.ensures.lost) c.requires.service
 
 pub returns-in-Err-Failed-clause-listens : goal.returns-in-Err-Failed-clause-listens
 returns-in-Err-Failed-clause-listens g c whole = record {
   once = c.listen.ensures.listens;
-  on_port = inr (refl, c.in-Err-Failed.ensures.err, tells-nothing _ _ c.listen.ensures.given c.listen.ensures.sent c.listen.ensures.lost);
+  on_port = inr (
+    refl,
+    c.in-Err-Failed.ensures.err,
+    tells-nothing _ _ c.listen.ensures.given c.listen.ensures.sent c.listen.ensures.lost,
+  );
 }
 
 pub returns-in-Err-Memory-clause-served : goal.returns-in-Err-Memory-clause-served
 returns-in-Err-Memory-clause-served g c =
-    wanted-at_once c.args.service c.args.room.now.state _ _ (tells-nothing _ _ c.listen.ensures.given c.listen.ensures.sent c.listen.ensures.lost) c.requires.service
+    wanted-at_once c.args.service c.args.room.now.state _ _
+    (tells-nothing _ _ c.listen.ensures.given c.listen.ensures.sent c.listen.ensures.lost) c.requires.service

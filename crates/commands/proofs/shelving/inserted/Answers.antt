@@ -42,7 +42,10 @@ returns-in-Err-Fault-NoItem-clause-refused c why e =
         scene = c.in_ok-scene.scene;
         items = items;
         holds = c.in_ok-scene.ensures.found;
-        none = λ item among same. best-none items c.in_ok-shelf.shelf c.args.insertion.now.item item c.in_ok-shelf.ensures (c.in-Err-Fault-NoItem.ensures.no_item (ap Err (c.in-Err-Fault-NoItem.field-0-is ∙ ap stop.Fault (rw c.in-Err-Fault-NoItem.field-0-is at c.in-Err-Fault-NoItem.field-0-0-is)))) among same;
+        none = λ item among same. best-none items c.in_ok-shelf.shelf c.args.insertion.now.item item
+            c.in_ok-shelf.ensures (c.in-Err-Fault-NoItem.ensures.no_item
+            (ap Err (c.in-Err-Fault-NoItem.field-0-is
+            ∙ ap stop.Fault (rw c.in-Err-Fault-NoItem.field-0-is at c.in-Err-Fault-NoItem.field-0-0-is)))) among same;
       },
     ))
 
@@ -51,7 +54,8 @@ returns-in-Err-Fault-Exists-clause-refused c why e =
     let items = c.in_ok-scene.items in
     let place = c.in-Err-Fault-Exists.place in
     let is = rw c.in-Err-Fault-Exists.field-0-is at c.in-Err-Fault-Exists.field-0-0-is in
-    let found = c.in-Err-Fault-Exists.ensures.exists place (ap Err (c.in-Err-Fault-Exists.field-0-is ∙ ap stop.Fault is)) in
+    let found =
+    c.in-Err-Fault-Exists.ensures.exists place (ap Err (c.in-Err-Fault-Exists.field-0-is ∙ ap stop.Fault is)) in
     inr (inr (
       place,
       rw (c.in-Err-Fault-Exists.field-0-is, is) at (sym (same-why _ _ why e)),
@@ -61,6 +65,11 @@ returns-in-Err-Fault-Exists-clause-refused c why e =
         holds = c.in_ok-scene.ensures.found;
         item = found.0;
         best = best-found items c.in_ok-shelf.shelf c.args.insertion.now.item found.0 c.in_ok-shelf.ensures found.1;
-        is = record { head = c.in_ok-head.head; stored = c.in_ok-head.store.elements; board = c.in_ok-head.ensures; exists = found.2 };
+        is = record {
+          head = c.in_ok-head.head;
+          stored = c.in_ok-head.store.elements;
+          board = c.in_ok-head.ensures;
+          exists = found.2;
+        };
       },
     ))

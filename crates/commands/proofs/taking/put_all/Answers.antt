@@ -12,13 +12,16 @@ loop-item-init c = record {
 
 pub loop-item-preserved : goal.loop-item-preserved
 loop-item-preserved c = record {
-  best = λ others are. subst (λ (items : List Item). AreBest items c.put.new.shelf) (append_assoc others c.loop-item.yielded (c.in-Some.item ∷ []))
+  best = λ others are. subst (λ (items : List Item). AreBest items c.put.new.shelf)
+      (append_assoc others c.loop-item.yielded (c.in-Some.item ∷ []))
       (c.in_ok-put.ensures (others ++ c.loop-item.yielded) (c.loop-item.invariant.best others are));
-  parts = rw append_assoc (c.loop-item.invariant.parts ∙ ap (λ rest. c.loop-item.yielded ++ rest) c.in-Some.ensures.steps.0);
+  parts = rw append_assoc (c.loop-item.invariant.parts
+      ∙ ap (λ rest. c.loop-item.yielded ++ rest) c.in-Some.ensures.steps.0);
 }
 
 pub returns : goal.returns
 returns c =
     let none : c.loop-item.item-iterator.rest.items ≡ [] = nil_from_length _ (omega (arith, c.in-None.ensures.steps)) in
-    let all : c.args.items ≡ c.loop-item.yielded = c.loop-item.invariant.parts ∙ ap (λ rest. c.loop-item.yielded ++ rest) none ∙ append-nil c.loop-item.yielded in
+    let all : c.args.items ≡ c.loop-item.yielded =
+    c.loop-item.invariant.parts ∙ ap (λ rest. c.loop-item.yielded ++ rest) none ∙ append-nil c.loop-item.yielded in
     rw all c.loop-item.invariant.best

@@ -5,4 +5,5 @@ use Rattle.copies.specs.Copies.{copy_among}
 use Rattle.copies.proofs.copying.copies.Given as goal
 
 abbrev pub invariant-loop-e : goal.invariant-loop-e
-invariant-loop-e l = l.copies.items ≡ map (copy_among (contains (slice_cmp nat_cmp) l.ids) l.prefix) (take l.e-index l.list)
+invariant-loop-e l =
+    l.copies.items ≡ map (copy_among (contains (slice_cmp nat_cmp) l.ids) l.prefix) (take l.e-index l.list)

@@ -3,7 +3,8 @@ use Rattle.std.proofs.lemmas.Str.{IsUtf8-append}
 use Rattle.copies.proofs.copying.prefixed.Goals as goal
 
 -- what can't be missing is there
-is-there : {A : Type 0} (P : Type 0) (Q : A → Type 0) (found : Option A) → MatchOption found (P → ⊥) Q → P → IsSome found
+is-there : {A : Type 0} (P : Type 0) (Q : A → Type 0) (found : Option A) → MatchOption found (P → ⊥) Q → P
+    → IsSome found
 is-there P Q None none is = absurd (none is)
 is-there P Q (Some x) some is = search rules
 

@@ -16,7 +16,9 @@ pub apply_change-requires : goal.apply_change-requires
 apply_change-requires c =
     let e = c.as_slice-change-items.ensures in
     subst (λ kind. IsChange kind c.change-item.result) (sym c.loop-change.invariant.changes.stamp.kind)
-    (each-change (IsChange c.args.e.now.kind) c.as_slice-change-items.result.now c.loop-change.change-index c.change-item.result (subst (AllByRecursion (IsChange c.args.e.now.kind)) (sym e) c.requires.each) (omega arith) (cc))
+    (each-change (IsChange c.args.e.now.kind) c.as_slice-change-items.result.now c.loop-change.change-index
+    c.change-item.result (subst (AllByRecursion (IsChange c.args.e.now.kind)) (sym e) c.requires.each) (omega arith)
+    (cc))
 
 pub loop-change-preserved : goal.loop-change-preserved
 loop-change-preserved c =
@@ -25,16 +27,21 @@ loop-change-preserved c =
     let change = c.change-item.result in
     let here : change ≡ get_or cs i change = cc in
     let within : i < length cs = omega arith in
-    let more : take (i + 1) cs ≡ take i cs ++ change ∷ [] = take_more cs i change within ∙ ap (λ x. take i cs ++ x ∷ []) (sym here) in
+    let more : take (i + 1) cs ≡ take i cs ++ change ∷ [] =
+    take_more cs i change within ∙ ap (λ x. take i cs ++ x ∷ []) (sym here) in
     record {
       changes =
           subst (λ xs. Changes xs c.args.e.now c.apply_change.new.e) (sym more)
-          (Changes-more (take i cs) change c.args.e.now c.loop-change.e c.apply_change.new.e c.loop-change.invariant.changes c.in_ok-apply_change.ensures.changes
-          (none-earlier name_of cs i change (subst (λ xs. are_rising (change_names xs) ≡ true) (sym c.as_slice-change-items.ensures) c.requires.rise) within here));
+          (Changes-more (take i cs) change c.args.e.now c.loop-change.e c.apply_change.new.e
+          c.loop-change.invariant.changes c.in_ok-apply_change.ensures.changes
+          (none-earlier name_of cs i change
+          (subst (λ xs. are_rising (change_names xs) ≡ true) (sym c.as_slice-change-items.ensures) c.requires.rise)
+          within here));
       element = c.in_ok-apply_change.ensures.element;
     }
 
 pub returns-clause-changes : goal.returns-clause-changes
 returns-clause-changes c =
     let all : length c.as_slice-change-items.result.now ≤ c.loop-change.change-index = omega arith in
-    subst (λ xs. Changes xs c.args.e.now c.loop-change.e) (take_all _ _ all ∙ c.as_slice-change-items.ensures) c.loop-change.invariant.changes
+    subst (λ xs. Changes xs c.args.e.now c.loop-change.e) (take_all _ _ all
+    ∙ c.as_slice-change-items.ensures) c.loop-change.invariant.changes

@@ -19,7 +19,8 @@ other c = ap (λ e. header_named e.kind c.args.name.now) c.e.view_is ∙ c.requi
 
 pub invariant_of-e-2 : goal.invariant_of-e-2
 invariant_of-e-2 c =
-    IsElement-rest _ c.args.name.now c.args.value c.from_vec.result c.e.invariant (not-header c.e.inside.kind c.args.name.now c.requires.free (other c)) c.requires.value (put c)
+    IsElement-rest _ c.args.name.now c.args.value c.from_vec.result c.e.invariant
+    (not-header c.e.inside.kind c.args.name.now c.requires.free (other c)) c.requires.value (put c)
 
 abbrev before : goal.After-drop-e-inside → ElementValue
 before c = record {
@@ -44,8 +45,10 @@ pub returns-clause-set : goal.returns-clause-set
 returns-clause-set c =
     let new : ElementValue = record (before c) { rest = c.from_vec.result } in
     subst (λ e. IsScalarSet e new c.args.name.now c.args.value) c.e.view_is
-    (IsScalarSet-member (before c) c.args.name.now c.args.value c.from_vec.result (other c) (risen c.e.inside.rest c.e.invariant.rise) (put c))
+    (IsScalarSet-member (before c) c.args.name.now c.args.value c.from_vec.result (other c)
+    (risen c.e.inside.rest c.e.invariant.rise) (put c))
 
 pub returns-clause-element : goal.returns-clause-element
 returns-clause-element c =
-    IsElement-rest (before c) c.args.name.now c.args.value c.from_vec.result c.e.invariant (not-header c.e.inside.kind c.args.name.now c.requires.free (other c)) c.requires.value (put c)
+    IsElement-rest (before c) c.args.name.now c.args.value c.from_vec.result c.e.invariant
+    (not-header c.e.inside.kind c.args.name.now c.requires.free (other c)) c.requires.value (put c)

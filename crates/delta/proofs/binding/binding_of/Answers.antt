@@ -11,7 +11,9 @@ use Rattle.delta.proofs.binding.binding_of.Goals.{In_ok-rest}
 
 found : (c : In_ok-rest) → IsFound c.args.value.now c.in_ok-rest.rest.items
 found c =
-    binding-found c.args.value.now c.requires.0 c.requires.1 c.requires.2 (λ e. false≢true (sym c.if-is_null.false ∙ c.is_null.ensures.1 e)) c.in_ok-rest.rest.items c.in_ok-rest.ensures.spelled c.in_ok-rest.ensures.are_members.valued
+    binding-found c.args.value.now c.requires.0 c.requires.1 c.requires.2
+    (λ e. false≢true (sym c.if-is_null.false ∙ c.is_null.ensures.1 e)) c.in_ok-rest.rest.items
+    c.in_ok-rest.ensures.spelled c.in_ok-rest.ensures.are_members.valued
 
 pub target_in-requires-clause-rise : goal.target_in-requires-clause-rise
 target_in-requires-clause-rise c = binding-rise (found (goal.at.target_in-requires-clause-rise c).In_ok-rest)
@@ -24,11 +26,13 @@ target_in-requires-clause-string c =
 pub put_value-requires : goal.put_value-requires
 put_value-requires c = binding-rise (found (goal.at.put_value-requires c).In_ok-rest)
 
-made : (c : goal.After-drop-name-inside-2) → (f : IsFound c.args.value.now c.in_ok-rest.rest.items) → f.binding ≡ record { target = c.in_ok-target.target; rest = c.from_vec.result }
+made : (c : goal.After-drop-name-inside-2) → (f : IsFound c.args.value.now c.in_ok-rest.rest.items)
+    → f.binding ≡ record { target = c.in_ok-target.target; rest = c.from_vec.result }
 made c f =
     binding-made f c.in_ok-target.target c.from_vec.result
     (ap (λ name. value_named name c.in_ok-rest.rest.items) (sym c.in_ok-name.ensures) ∙ c.in_ok-target.ensures)
-    (c.from_vec.ensures ∙ c.in_ok-put_value.ensures ∙ ap (λ name. with_value name None c.in_ok-rest.rest.items) c.in_ok-name.ensures)
+    (c.from_vec.ensures ∙ c.in_ok-put_value.ensures
+    ∙ ap (λ name. with_value name None c.in_ok-rest.rest.items) c.in_ok-name.ensures)
 
 pub returns-clause-text : goal.returns-clause-text
 returns-clause-text c =

@@ -21,5 +21,7 @@ returns c =
     let first = c.in_ok-note_rest.ensures first_names c.in_ok-note_headers.ensures in
     let both = c.in_ok-note_rest-2.ensures (first_names ++ names c.old.inside.rest) first in
     AreAllChanges-from old new c.note_rest-2.new.changes.items c.requires
-    (subst (λ ns. AreChangesOf old new ((first_names ++ ns) ++ names new.rest) c.note_rest-2.new.changes.items) (ap (λ e. names e.rest) c.old.view_is)
-    (subst (λ ns. AreChangesOf old new ((first_names ++ names c.old.inside.rest) ++ ns) c.note_rest-2.new.changes.items) (ap (λ e. names e.rest) c.new.view_is) both))
+    (subst (λ ns. AreChangesOf old new ((first_names ++ ns) ++ names new.rest) c.note_rest-2.new.changes.items)
+    (ap (λ e. names e.rest) c.old.view_is)
+    (subst (λ ns. AreChangesOf old new ((first_names ++ names c.old.inside.rest) ++ ns) c.note_rest-2.new.changes.items)
+    (ap (λ e. names e.rest) c.new.view_is) both))

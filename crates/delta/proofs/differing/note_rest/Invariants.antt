@@ -5,4 +5,5 @@ use Rattle.delta.specs.inner.Told.{AreChangesOf}
 use Rattle.delta.proofs.differing.note_rest.Given as goal
 
 abbrev pub invariant-loop-member : goal.invariant-loop-member
-invariant-loop-member l = (known : List (List ℕ)) → AreChangesOf l.old l.new known l.initial.changes.items → AreChangesOf l.old l.new (known ++ names (take l.member-index l.member-items)) l.changes.items
+invariant-loop-member l = (known : List (List ℕ)) → AreChangesOf l.old l.new known l.initial.changes.items
+    → AreChangesOf l.old l.new (known ++ names (take l.member-index l.member-items)) l.changes.items

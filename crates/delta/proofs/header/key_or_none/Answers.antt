@@ -6,7 +6,8 @@ use Rattle.elem.specs.Texts.{text_or_null}
 use Rattle.delta.proofs.Injective.{text-same}
 use Rattle.delta.proofs.header.key_or_none.Goals as goal
 
-keyed : (key : Option (List ℕ)) (text : List ℕ) → IfSome key (λ k. IsTrue (is_key k)) → Some text ≡ key → is_key text ≡ true
+keyed : (key : Option (List ℕ)) (text : List ℕ) → IfSome key (λ k. IsTrue (is_key k)) → Some text ≡ key
+    → is_key text ≡ true
 keyed key text h e = let P : Option (List ℕ) → Type 0 = λ o. IfSome o (λ k. IsTrue (is_key k)) in subst P (sym e) h
 
 pub returns-in-Some : goal.returns-in-Some
@@ -16,5 +17,6 @@ returns-in-Some c =
     let key = keyed c.requires.0 text c.requires.1 (text-same (Some text) c.requires.0 (same ∙ c.requires.2)) in
     let here : is_key c.as_bytes.result.now ≡ true = ap is_key c.as_bytes.ensures.value ∙ key in
     IfOk-weaker _ _ (λ found. text_or_null found ≡ c.args.value.now)
-    (λ found e. ap text_or_null (e ∙ ap (λ b. if b then Some c.as_bytes.result.now else None) here ∙ ap Some c.as_bytes.ensures.value) ∙ same)
+    (λ found e. ap text_or_null (e ∙ ap (λ b. if b then Some c.as_bytes.result.now else None) here
+    ∙ ap Some c.as_bytes.ensures.value) ∙ same)
     c.read.ensures.exact

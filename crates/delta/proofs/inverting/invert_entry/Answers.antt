@@ -16,13 +16,15 @@ loop-part-preserved c =
     let is = c.loop-part.invariant in
     rw add-one
     (ap (λ xs. set xs i c.turn.new.part) is
-    ∙ partly-more inverse parts i c.part-item.result c.turn.new.part c.loop-part-test.true (c.turn.ensures ∙ ap (λ xs. inverse (get_or xs i c.part-item.result)) is))
+    ∙ partly-more inverse parts i c.part-item.result c.turn.new.part c.loop-part-test.true (c.turn.ensures
+    ∙ ap (λ xs. inverse (get_or xs i c.part-item.result)) is))
 
 whole : (c : goal.After-from_vec) → c.from_vec.result ≡ map inverse c.entry.inside.parts
 whole c =
     let parts = c.deref_mut-part-items.result.now in
     let items = c.loop-part.part-items in
-    let long : length items ≡ c.into_vec-parts.result.len = c.loop-part.auto.part-items ∙ c.deref_mut-part-items.ensures.len in
+    let long : length items ≡ c.into_vec-parts.result.len =
+    c.loop-part.auto.part-items ∙ c.deref_mut-part-items.ensures.len in
     c.from_vec.ensures ∙ rw (← long) (take-append_seam items _)
     ∙ c.loop-part.invariant ∙ partly-all inverse parts c.loop-part.part-index c.loop-part-test.false
     ∙ ap (map inverse) (c.deref_mut-part-items.ensures.value ∙ c.into_vec-parts.ensures)

@@ -6,4 +6,5 @@ use Rattle.delta.proofs.rest.find_value.Goals as goal
 pub returns : goal.returns
 returns c =
     c.value_at.ensures
-    ∙ value-at c.args.name.now c.args.members.now c.place_of.result (risen c.args.members.now c.requires) c.place_of.ensures.before c.place_of.ensures.behind
+    ∙ value-at c.args.name.now c.args.members.now c.place_of.result (risen c.args.members.now c.requires)
+    c.place_of.ensures.before c.place_of.ensures.behind

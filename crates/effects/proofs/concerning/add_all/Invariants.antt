@@ -6,4 +6,5 @@ use Rattle.effects.proofs.concerning.add_all.Given as goal
 
 abbrev pub invariant-loop-id : goal.invariant-loop-id
 invariant-loop-id l =
-    (id : List ℕ) → contains (slice_cmp nat_cmp) l.ids id ≡ (is_among (take l.id-index l.others) id || contains (slice_cmp nat_cmp) l.initial.ids id)
+    (id : List ℕ) → contains (slice_cmp nat_cmp) l.ids id
+    ≡ (is_among (take l.id-index l.others) id || contains (slice_cmp nat_cmp) l.initial.ids id)

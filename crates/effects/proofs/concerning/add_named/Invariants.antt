@@ -7,4 +7,5 @@ use Rattle.effects.proofs.concerning.add_named.Given as goal
 
 abbrev pub invariant-loop-row : goal.invariant-loop-row
 invariant-loop-row l =
-    (id : List ℕ) → contains (slice_cmp nat_cmp) l.ids id ≡ (list_any (is_for id) (take l.row-index l.row-items) || contains (slice_cmp nat_cmp) l.initial.ids id)
+    (id : List ℕ) → contains (slice_cmp nat_cmp) l.ids id
+    ≡ (list_any (is_for id) (take l.row-index l.row-items) || contains (slice_cmp nat_cmp) l.initial.ids id)

@@ -16,7 +16,9 @@ loop-id-preserved c = λ x.
     let there = has c.loop-id.ids x in
     let rest = is_among c.next.new.self x in
     ap (λ b. b || rest) (c.in_ok-add.ensures x)
-    ∙ added-left own there rest _ (ap (λ ids. there || is_among ids x) (sym c.in-Some.ensures.steps) ∙ c.loop-id.invariant x)
+    ∙ added-left own there rest _ (ap (λ ids. there || is_among ids x) (sym c.in-Some.ensures.steps)
+    ∙ c.loop-id.invariant x)
 
 pub returns : goal.returns
-returns c = λ x. added-all (has c.loop-id.ids x) _ (ap (λ ids. has c.loop-id.ids x || is_among ids x) (sym c.in-None.ensures.steps.0) ∙ c.loop-id.invariant x)
+returns c = λ x. added-all (has c.loop-id.ids x) _
+    (ap (λ ids. has c.loop-id.ids x || is_among ids x) (sym c.in-None.ensures.steps.0) ∙ c.loop-id.invariant x)

@@ -7,4 +7,5 @@ use Rattle.effects.proofs.concerning.add_set.Given as goal
 -- those that are there and those that are left are all
 abbrev pub invariant-loop-id : goal.invariant-loop-id
 invariant-loop-id l =
-    (id : List ℕ) → (contains (slice_cmp nat_cmp) l.ids id || is_among l.id-iterator id) ≡ (contains (slice_cmp nat_cmp) l.others id || contains (slice_cmp nat_cmp) l.initial.ids id)
+    (id : List ℕ) → (contains (slice_cmp nat_cmp) l.ids id || is_among l.id-iterator id)
+    ≡ (contains (slice_cmp nat_cmp) l.others id || contains (slice_cmp nat_cmp) l.initial.ids id)

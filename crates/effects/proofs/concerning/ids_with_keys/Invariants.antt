@@ -8,4 +8,5 @@ use Rattle.effects.proofs.concerning.ids_with_keys.Given as goal
 -- those that are there and those that are left are all
 abbrev pub invariant-loop-id : goal.invariant-loop-id
 invariant-loop-id l =
-    (id : List ℕ) → (contains (slice_cmp nat_cmp) l.ids id || is_among l.id-iterator id) ≡ is_some (tree.get (slice_cmp nat_cmp) l.keys id)
+    (id : List ℕ) → (contains (slice_cmp nat_cmp) l.ids id || is_among l.id-iterator id)
+    ≡ is_some (tree.get (slice_cmp nat_cmp) l.keys id)

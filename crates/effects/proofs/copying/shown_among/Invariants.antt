@@ -5,4 +5,5 @@ use Rattle.elem.specs.ElementValue.{ElementValue}
 use Rattle.effects.proofs.copying.shown_among.Given as goal
 
 abbrev pub invariant-loop-e : goal.invariant-loop-e
-invariant-loop-e l = l.list.items ≡ filter (λ (e : ElementValue). contains (slice_cmp nat_cmp) l.ids e.id) (take l.e-index l.shown)
+invariant-loop-e l =
+    l.list.items ≡ filter (λ (e : ElementValue). contains (slice_cmp nat_cmp) l.ids e.id) (take l.e-index l.shown)

@@ -13,7 +13,9 @@ returns-in-Some-clause-low c =
     let at' = some-at seen c.args.below.now c.in-Some.i c.in-Some.ensures.found in
     c.gap_over.ensures.low at'.0 at'.1
     ∙ sym (ap (λ (g : Gap). g.low)
-    (gap_above-at c.args.below.now (option_copied c.args.except) seen c.in-Some.i at'.0 (seen-distinct c.args.lookup.now c.requires) at'.1 at'.2 (sym c.is_excepted.ensures ∙ c.if-not-is_excepted.true)))
+    (gap_above-at c.args.below.now (option_copied c.args.except) seen c.in-Some.i at'.0
+    (seen-distinct c.args.lookup.now c.requires) at'.1 at'.2 (sym c.is_excepted.ensures
+    ∙ c.if-not-is_excepted.true)))
 
 pub returns-in-Some-clause-high : goal.returns-in-Some-clause-high
 returns-in-Some-clause-high c =
@@ -21,15 +23,21 @@ returns-in-Some-clause-high c =
     let at' = some-at seen c.args.below.now c.in-Some.i c.in-Some.ensures.found in
     c.gap_over.ensures.high
     ∙ sym (ap (λ (g : Gap). g.high)
-    (gap_above-at c.args.below.now (option_copied c.args.except) seen c.in-Some.i at'.0 (seen-distinct c.args.lookup.now c.requires) at'.1 at'.2 (sym c.is_excepted.ensures ∙ c.if-not-is_excepted.true)))
+    (gap_above-at c.args.below.now (option_copied c.args.except) seen c.in-Some.i at'.0
+    (seen-distinct c.args.lookup.now c.requires) at'.1 at'.2 (sym c.is_excepted.ensures
+    ∙ c.if-not-is_excepted.true)))
 
 pub returns-in_default-clause-low : goal.returns-in_default-clause-low
 returns-in_default-clause-low c =
     let seen = c.args.lookup.now.shown.now in
     let except = option_copied c.args.except in
     elim c.in_default.branch [
-      | in_default-via-in-Some+else-not-is_excepted w ↦ sym (ap (λ (g : Gap). g.low) (gap_above-excepted c.args.below.now except seen (sym w.is_excepted.ensures ∙ w.if-not-is_excepted.false)))
-      | in_default-via-in_default w ↦ sym (ap (λ (g : Gap). g.low) (gap_above-missing c.args.below.now except seen (none-left seen c.args.below.now c.shown_place.result w.in_default.not-Some c.shown_place.ensures.absent)))
+      | in_default-via-in-Some+else-not-is_excepted w ↦ sym
+          (ap (λ (g : Gap). g.low) (gap_above-excepted c.args.below.now except seen (sym w.is_excepted.ensures
+          ∙ w.if-not-is_excepted.false)))
+      | in_default-via-in_default w ↦ sym
+          (ap (λ (g : Gap). g.low) (gap_above-missing c.args.below.now except seen
+          (none-left seen c.args.below.now c.shown_place.result w.in_default.not-Some c.shown_place.ensures.absent)))
     ]
 
 pub returns-in_default-clause-high : goal.returns-in_default-clause-high
@@ -37,6 +45,10 @@ returns-in_default-clause-high c =
     let seen = c.args.lookup.now.shown.now in
     let except = option_copied c.args.except in
     elim c.in_default.branch [
-      | in_default-via-in-Some+else-not-is_excepted w ↦ sym (ap (λ (g : Gap). g.high) (gap_above-excepted c.args.below.now except seen (sym w.is_excepted.ensures ∙ w.if-not-is_excepted.false)))
-      | in_default-via-in_default w ↦ sym (ap (λ (g : Gap). g.high) (gap_above-missing c.args.below.now except seen (none-left seen c.args.below.now c.shown_place.result w.in_default.not-Some c.shown_place.ensures.absent)))
+      | in_default-via-in-Some+else-not-is_excepted w ↦ sym
+          (ap (λ (g : Gap). g.high) (gap_above-excepted c.args.below.now except seen (sym w.is_excepted.ensures
+          ∙ w.if-not-is_excepted.false)))
+      | in_default-via-in_default w ↦ sym
+          (ap (λ (g : Gap). g.high) (gap_above-missing c.args.below.now except seen
+          (none-left seen c.args.below.now c.shown_place.result w.in_default.not-Some c.shown_place.ensures.absent)))
     ]

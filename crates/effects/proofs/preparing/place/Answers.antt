@@ -9,7 +9,8 @@ returns c =
     let seen = lookup.shown.now in
     record {
       exact = λ e among live.
-          ap (with_key_of c.in_ok-id.id c.in_ok-key.key) (settled-view lookup c.requires c.in_ok-keys.keys c.in_ok-keys.ensures e among live)
+          ap (with_key_of c.in_ok-id.id c.in_ok-key.key)
+          (settled-view lookup c.requires c.in_ok-keys.keys c.in_ok-keys.ensures e among live)
           ∙ ap (λ id. with_key_of id c.in_ok-key.key (with_view_key seen e)) c.in_ok-id.ensures
           ∙ ap (λ key. with_key_of c.args.id.now key (with_view_key seen e))
           (c.in_ok-key.ensures.exact ∙ ap (key_at seen c.args.spot.now (Some c.args.id.now)) c.in_ok-old.ensures);

@@ -12,4 +12,5 @@ loop-id-preserved c =
     let within : i < length all = omega (arith, c.loop-id-test.true, ap length c.as_slice-id-items.ensures) in
     let is = c.id-item.is ∙ ap (λ ids. get_or ids i id) c.as_slice-id-items.ensures in
     subst (HasIds c.insert.new.self) (sym (take_more all i id within ∙ ap (λ x. take i all ++ x ∷ []) (sym is)))
-    (HasIds-more c.loop-id.set c.insert.new.self (take i all) id c.in_ok-try_clone.field-0 c.loop-id.invariant c.in_ok-try_clone.ensures c.in_ok-insert.ensures.updates)
+    (HasIds-more c.loop-id.set c.insert.new.self (take i all) id c.in_ok-try_clone.field-0 c.loop-id.invariant
+    c.in_ok-try_clone.ensures c.in_ok-insert.ensures.updates)

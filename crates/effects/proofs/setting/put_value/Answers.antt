@@ -8,7 +8,8 @@ returns-then-is_named_at c =
     let ms = c.args.members.now.items in
     rw (c.count_below-place.ensures.count, c.in_ok-name.ensures)
     (with_value-set c.args.name.now c.args.value ms
-    (rw (c.count_below-place.ensures.count, c.in_ok-name.ensures) at (sym c.is_named_at.ensures ∙ c.if-is_named_at.true)))
+    (rw (c.count_below-place.ensures.count, c.in_ok-name.ensures) at (sym c.is_named_at.ensures
+    ∙ c.if-is_named_at.true)))
 
 pub returns-in_ok-insert : goal.returns-in_ok-insert
 returns-in_ok-insert c =
@@ -16,4 +17,5 @@ returns-in_ok-insert c =
     c.in_ok-insert.ensures.items
     ∙ rw (c.count_below-place.ensures.count, c.in_ok-name.ensures)
     (with_value-insert c.args.name.now c.args.value ms
-    (rw (c.count_below-place.ensures.count, c.in_ok-name.ensures) at (sym c.is_named_at.ensures ∙ c.if-is_named_at.false)))
+    (rw (c.count_below-place.ensures.count, c.in_ok-name.ensures) at (sym c.is_named_at.ensures
+    ∙ c.if-is_named_at.false)))

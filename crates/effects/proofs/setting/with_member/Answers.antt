@@ -6,11 +6,13 @@ use Rattle.delta.proofs.CallerLemmas.{IsElement-rest}
 use Rattle.effects.proofs.SettingLaws.{nests-more, free-header}
 use Rattle.effects.proofs.setting.with_member.Goals as goal
 
-put : (c : goal.After-drop-new-inside) → c.from_vec.result ≡ with_value c.args.name.now (Some c.in_ok-value.value) c.new.inside.rest
+put : (c : goal.After-drop-new-inside) → c.from_vec.result
+    ≡ with_value c.args.name.now (Some c.in_ok-value.value) c.new.inside.rest
 put c =
     c.from_vec.ensures ∙ c.in_ok-put_value.ensures
     ∙ ap (with_value c.args.name.now (Some c.in_ok-value.value))
-    (c.into_vec-members.ensures ∙ c.in_ok-try_clone_with.ensures ∙ ap (λ (d : ElementValue). d.rest) (c.e.view_is ∙ sym (c.new.view_is ∙ c.in_ok-new.ensures)))
+    (c.into_vec-members.ensures ∙ c.in_ok-try_clone_with.ensures
+    ∙ ap (λ (d : ElementValue). d.rest) (c.e.view_is ∙ sym (c.new.view_is ∙ c.in_ok-new.ensures)))
 
 pub invariant_of-new : goal.invariant_of-new
 invariant_of-new c =

@@ -19,11 +19,17 @@ returns-in_err-new-clause-full c =
     let makes = made_by c.args.effect.now in
     let p = is_full_at stored makes in
     let id = c.in-Some.id.now in
-    let walked = full-walked makes c.args.time c.args.nonce stored c.args.ids.now c.requires.ordered c.into_iter-id-iterator.ensures.into_iter_gives.4 c.requires.others in
-    let told : OnFault c.in_err-new.field-0.0 (λ refusal. option_map refusal_at (find (is_full makes) stored) ≡ Some refusal) =
-    OnFault-weaker (λ (refusal : Refusal). (p id ≡ true) × (refusal ≡ VersionFull id)) (λ refusal. option_map refusal_at (find (is_full makes) stored) ≡ Some refusal) c.in_err-new.field-0.0
+    let walked = full-walked makes c.args.time c.args.nonce stored c.args.ids.now c.requires.ordered
+    c.into_iter-id-iterator.ensures.into_iter_gives.4 c.requires.others in
+    let told : OnFault c.in_err-new.field-0.0 (λ refusal. option_map refusal_at (find (is_full makes) stored)
+    ≡ Some refusal) =
+    OnFault-weaker (λ (refusal : Refusal). (p id ≡ true) × (refusal ≡ VersionFull id))
+    (λ refusal. option_map refusal_at (find (is_full makes) stored) ≡ Some refusal) c.in_err-new.field-0.0
     (λ refusal is.
-    sym walked ∙ ap (option_map VersionFull) (walked-full (change_at stored makes c.args.time c.args.nonce) p c.loop-id.id-iterator c.next.new.self id c.in-Some.ensures.steps (find p c.args.ids.now.keys) is.0 c.loop-id.invariant.free) ∙ ap Some (sym is.1))
+    sym walked
+    ∙ ap (option_map VersionFull) (walked-full (change_at stored makes c.args.time c.args.nonce) p
+    c.loop-id.id-iterator c.next.new.self id c.in-Some.ensures.steps (find p c.args.ids.now.keys) is.0
+    c.loop-id.invariant.free) ∙ ap Some (sym is.1))
     c.in_err-new.ensures.full in
     search (rules, told)
 
@@ -37,8 +43,10 @@ loop-id-preserved c =
     record {
       made =
           ap (λ es. es ++ filter_map f c.next.new.self) c.in_ok-note.ensures
-          ∙ walked-made f p c.loop-id.id-iterator c.next.new.self id c.in-Some.ensures.steps c.loop-id.changed.items (filter_map f c.args.ids.now.keys) c.in_ok-new.new c.in_ok-new.ensures.changed c.loop-id.invariant.made;
-      free = walked-free f p c.loop-id.id-iterator c.next.new.self id c.in-Some.ensures.steps (find p c.args.ids.now.keys) c.in_ok-new.ensures.free c.loop-id.invariant.free;
+          ∙ walked-made f p c.loop-id.id-iterator c.next.new.self id c.in-Some.ensures.steps c.loop-id.changed.items
+          (filter_map f c.args.ids.now.keys) c.in_ok-new.new c.in_ok-new.ensures.changed c.loop-id.invariant.made;
+      free = walked-free f p c.loop-id.id-iterator c.next.new.self id c.in-Some.ensures.steps
+          (find p c.args.ids.now.keys) c.in_ok-new.ensures.free c.loop-id.invariant.free;
     }
 
 pub returns-clause-changed : goal.returns-clause-changed
@@ -46,7 +54,8 @@ returns-clause-changed c =
     let stored = c.args.store.now.elements in
     let makes = made_by c.args.effect.now in
     let f = change_at stored makes c.args.time c.args.nonce in
-    let walked = changes-walked makes c.args.time c.args.nonce stored c.args.ids.now c.requires.ordered c.into_iter-id-iterator.ensures.into_iter_gives.4 c.requires.others in
+    let walked = changes-walked makes c.args.time c.args.nonce stored c.args.ids.now c.requires.ordered
+    c.into_iter-id-iterator.ensures.into_iter_gives.4 c.requires.others in
     sym (append-nil c.loop-id.changed.items)
     ∙ ap (λ ids. c.loop-id.changed.items ++ filter_map f ids) (sym c.in-None.ensures.steps.0)
     ∙ c.loop-id.invariant.made
@@ -57,6 +66,7 @@ returns-clause-none_full c =
     let stored = c.args.store.now.elements in
     let makes = made_by c.args.effect.now in
     let p = is_full_at stored makes in
-    let walked = full-walked makes c.args.time c.args.nonce stored c.args.ids.now c.requires.ordered c.into_iter-id-iterator.ensures.into_iter_gives.4 c.requires.others in
+    let walked = full-walked makes c.args.time c.args.nonce stored c.args.ids.now c.requires.ordered
+    c.into_iter-id-iterator.ensures.into_iter_gives.4 c.requires.others in
     unmapped refusal_at (find (is_full makes) stored)
     (sym walked ∙ ap (option_map VersionFull) (sym c.loop-id.invariant.free ∙ ap (find p) c.in-None.ensures.steps.0))

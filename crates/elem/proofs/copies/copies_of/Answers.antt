@@ -15,11 +15,15 @@ loop-e-preserved c =
     let within : i < length list = omega arith in
     record {
       copies =
-          c.in_ok-push.ensures.items ∙ ap₂ (λ es (copy : ElementValue). es ++ copy ∷ []) c.loop-e.invariant.copies c.in_ok-try_clone.ensures
+          c.in_ok-push.ensures.items ∙ ap₂ (λ es (copy : ElementValue). es ++ copy ∷ []) c.loop-e.invariant.copies
+          c.in_ok-try_clone.ensures
           ∙ sym (take_more list i e within ∙ ap (λ x. take i list ++ x ∷ []) (sym c.e-item.is));
       elements =
           All-more (λ e. IsElement e × HasValidTexts e) list i e within c.loop-e.invariant.elements
-          (subst (λ e. IsElement e × HasValidTexts e) c.e-item.is (c.tell.ensures.is_element, c.tell.ensures.is_written));
+          (subst (λ e. IsElement e × HasValidTexts e) c.e-item.is (
+            c.tell.ensures.is_element,
+            c.tell.ensures.is_written,
+          ));
     }
 
 pub returns-clause-elements : goal.returns-clause-elements

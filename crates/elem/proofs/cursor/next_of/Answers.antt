@@ -11,8 +11,10 @@ returns-in-None-first_below c =
     let h = c.in-Some.header.now in
     let hs = c.in-Some.others.now in
     let all : c.args.headers.now ≡ h ∷ hs = search (c.in-Some.ensures) in
-    let none : members_below (header_name h) c.args.rest.now ≡ [] = rw (← c.name.ensures) c.in-None-first_below.ensures in
-    rw all (header-splits c.args.first (header_pair e h) (map (header_pair e) hs) c.args.rest.now c.header_piece-piece.result.0 (value_left c.header_piece-piece.result.1) none c.header_piece-piece.ensures)
+    let none : members_below (header_name h) c.args.rest.now ≡ [] =
+    rw (← c.name.ensures) c.in-None-first_below.ensures in
+    rw all (header-splits c.args.first (header_pair e h) (map (header_pair e) hs) c.args.rest.now
+    c.header_piece-piece.result.0 (value_left c.header_piece-piece.result.1) none c.header_piece-piece.ensures)
 
 pub returns-in-None : goal.returns-in-None
 returns-in-None c =

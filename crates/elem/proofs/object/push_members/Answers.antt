@@ -23,20 +23,27 @@ loop-member-preserved c =
     let inside : c.loop-member.member-index < length ms = omega arith in
     record {
       begun = λ before first at is.
-          subst (λ all. IsBegun before all c.push_member.new.out.items) (members-more ms m c.loop-member.member-index inside c.member-item.is first)
-          (opened-step before _ (pair_of m) c.args.start c.loop-member.out.items c.push_member.new.out.items at (c.loop-member.invariant.begun before first at is)
+          subst (λ all. IsBegun before all c.push_member.new.out.items)
+          (members-more ms m c.loop-member.member-index inside c.member-item.is first)
+          (opened-step before _ (pair_of m) c.args.start c.loop-member.out.items c.push_member.new.out.items at
+          (c.loop-member.invariant.begun before first at is)
           (c.in_ok-push_member.ensures.ok ∙ ap (λ o. o ++ member_text (pair_of m)) c.in_ok-push_mark.ensures.ok));
       kept = extends_then _ _ _ c.loop-member.invariant.kept
-          (extends_then _ _ _ (extends_by _ _ _ c.in_ok-push_mark.ensures.ok) (extends_by _ _ _ c.in_ok-push_member.ensures.ok));
-      named = All-more (λ (m : Member). IsUtf8 m.name) ms c.loop-member.member-index m inside c.loop-member.invariant.named
+          (extends_then _ _ _ (extends_by _ _ _ c.in_ok-push_mark.ensures.ok)
+          (extends_by _ _ _ c.in_ok-push_member.ensures.ok));
+      named =
+          All-more (λ (m : Member). IsUtf8 m.name) ms c.loop-member.member-index m inside c.loop-member.invariant.named
           (subst (λ (m : Member). IsUtf8 m.name) c.member-item.is c.in_ok-push_member.ensures.utf8);
     }
 
 pub returns-clause-begun : goal.returns-clause-begun
 returns-clause-begun c = λ before first at is.
-    subst (λ ms. IsBegun before (first ++ pairs ms) c.loop-member.out.items) (take_all c.loop-member.member-index c.args.members.now c.loop-member-test.false)
+    subst (λ ms. IsBegun before (first ++ pairs ms) c.loop-member.out.items)
+    (take_all c.loop-member.member-index c.args.members.now c.loop-member-test.false)
     (c.loop-member.invariant.begun before first at is)
 
 pub returns-clause-named : goal.returns-clause-named
 returns-clause-named c =
-    All-same (λ (m : Member). IsUtf8 m.name) c.args.members.now _ (sym (take_all c.loop-member.member-index c.args.members.now c.loop-member-test.false)) c.loop-member.invariant.named
+    All-same (λ (m : Member). IsUtf8 m.name) c.args.members.now _
+    (sym (take_all c.loop-member.member-index c.args.members.now c.loop-member-test.false))
+    c.loop-member.invariant.named

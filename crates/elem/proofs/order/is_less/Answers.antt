@@ -3,7 +3,9 @@ use Rattle.frac_keys.specs.Keys.{bytes_less}
 use Rattle.elem.proofs.order.is_less.Goals as goal
 
 -- nothing was left where no byte was taken
-was_empty : (taken : Option ℕ) (old new : List ℕ) → MatchOption taken ((old ≡ []) × (new ≡ [])) (λ byte. old ≡ byte ∷ new) → ((byte : ℕ) → taken ≡ Some byte → ⊥) → old ≡ []
+was_empty : (taken : Option ℕ) (old new : List ℕ)
+    → MatchOption taken ((old ≡ []) × (new ≡ [])) (λ byte. old ≡ byte ∷ new) → ((byte : ℕ) → taken ≡ Some byte → ⊥)
+    → old ≡ []
 was_empty None old new is none = is.0
 was_empty (Some byte) old new is none = absurd (none byte refl)
 

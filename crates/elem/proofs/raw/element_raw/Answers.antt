@@ -26,10 +26,16 @@ returns-clause-sorted c =
     let e = c.args.e.now in
     let text = written (goal.at.returns-clause-sorted c).In_ok-push_element in
     IfOk-weaker c.raw_of.result _ _
-    (λ raw same. (element_members e, same ∙ text, IsPermutation-sorted (header_members e ++ pairs e.rest), c.in_ok-push_element.ensures.rise))
+    (λ raw same. (
+      element_members e,
+      same ∙ text,
+      IsPermutation-sorted (header_members e ++ pairs e.rest),
+      c.in_ok-push_element.ensures.rise,
+    ))
     c.raw_of.ensures
 
 pub returns-clause-nests : goal.returns-clause-nests
 returns-clause-nests c =
     let text = written (goal.at.returns-clause-nests c).In_ok-push_element in
-    IfOk-weaker c.raw_of.result _ (IsCompact 120) (λ raw same. subst (IsCompact 120) (sym (same ∙ text)) c.in_ok-push_element.ensures.nests) c.raw_of.ensures
+    IfOk-weaker c.raw_of.result _ (IsCompact 120)
+    (λ raw same. subst (IsCompact 120) (sym (same ∙ text)) c.in_ok-push_element.ensures.nests) c.raw_of.ensures

@@ -18,7 +18,8 @@ use Rattle.elem.proofs.raw.push_binding.Goals.{In_ok-push}
 sound : (c : In_ok-push) → IsBinding c.in-Some.binding
 sound c = rw c.in-Some.is at c.requires
 
-all : (c : In_ok-push) → Merged 118 c.args.out.now.items c.push.new.self.items (sorted_members (target_pair c.in-Some.binding ∷ pairs c.in-Some.binding.rest))
+all : (c : In_ok-push) → Merged 118 c.args.out.now.items c.push.new.self.items
+    (sorted_members (target_pair c.in-Some.binding ∷ pairs c.in-Some.binding.rest))
 unfolding quote
 all c =
     let out = c.args.out.now.items in
@@ -30,16 +31,21 @@ all c =
     let below = c.in_ok-rest.ensures in
     let before = merging-from 118 out (target ∷ []) binding.rest (nest-pairs 118 binding.rest (sound c).nest) in
     let header : (first : List Pair) → IsBegun out first low → IsBegun out (first ++ target ∷ []) done =
-    λ first is. begun-step out first (codes "elementId") (quote binding.target) c.len-start.result low c.begin_quoted.new.out.items done at is c.in_ok-begin_quoted.ensures.text c.in_ok-push_quote.ensures.ok in
+    λ first is. begun-step out first (codes "elementId") (quote binding.target) c.len-start.result low
+    c.begin_quoted.new.out.items done at is c.in_ok-begin_quoted.ensures.text c.in_ok-push_quote.ensures.ok in
     let same : c.as_slice.result.now ≡ binding.rest = c.as_slice.ensures in
     let named = rw same at (recursion_from_All (λ (m : Member). IsUtf8 m.name) _ below.named) in
     let begun = rw same at below.begun in
     let left = rw same at below.left in
-    let target_too = merging-step 118 out out low done target [] binding.rest c.in_ok-rest.rest.now (target ∷ []) binding.rest before
-    (λ first is. begun out first at is) left named header c.in_ok-rest.ensures.utf8 (Value-deeper (omega arith) c.in_ok-push_quote.ensures.nests) in
+    let target_too =
+    merging-step 118 out out low done target [] binding.rest c.in_ok-rest.rest.now (target ∷ []) binding.rest before
+    (λ first is. begun out first at is) left named header c.in_ok-rest.ensures.utf8
+    (Value-deeper (omega arith) c.in_ok-push_quote.ensures.nests) in
     subst (Merged 118 out c.push.new.self.items) (merged-binding binding (sound c))
-    (merging-closed 118 out done c.push_members.new.out.items c.push.new.self.items c.in_ok-rest.rest.now (target ∷ []) binding.rest target_too
-    (λ first is. c.in_ok-push_members.ensures.begun out first at is) (recursion_from_All (λ (m : Member). IsUtf8 m.name) _ c.in_ok-push_members.ensures.named)
+    (merging-closed 118 out done c.push_members.new.out.items c.push.new.self.items c.in_ok-rest.rest.now (target ∷ [])
+    binding.rest target_too
+    (λ first is. c.in_ok-push_members.ensures.begun out first at is)
+    (recursion_from_All (λ (m : Member). IsUtf8 m.name) _ c.in_ok-push_members.ensures.named)
     c.in_ok-push.ensures.items (length-merged target [] binding.rest))
 
 pub returns-clause-text : goal.returns-clause-text

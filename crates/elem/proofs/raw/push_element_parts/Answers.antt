@@ -26,7 +26,8 @@ loop-header-init c =
     rw (headers, rest) (merging-from 119 out (header_pairs e e.kind) e.rest (nest-pairs 119 e.rest is.nest))
 
 -- one more header member
-more : (e : ElementValue) (hs : List Header) (h : Header) (i : ℕ) → i < length hs → map (header_pair e) (drop i hs) ≡ header_pair e (get_or hs i h) ∷ map (header_pair e) (drop (i + 1) hs)
+more : (e : ElementValue) (hs : List Header) (h : Header) (i : ℕ) → i < length hs
+    → map (header_pair e) (drop i hs) ≡ header_pair e (get_or hs i h) ∷ map (header_pair e) (drop (i + 1) hs)
 more e hs h i inside =
     let first : drop i hs ≡ get_or hs i h ∷ drop (i + 1) hs = rw (drop-cons hs i h inside, add-one) refl in
     ap (map (header_pair e)) first
@@ -42,10 +43,14 @@ loop-header-preserved c =
     let at : c.len-start.result ≡ length out = search rules in
     let name : c.name.result.now ≡ header_name h = c.name.ensures in
     let here = more e hs BoundElements i (omega arith) in
-    let so_far = subst (λ ps. Merging 119 out c.loop-header.out.items ps c.loop-header.rest.now (header_pairs e e.kind) e.rest) here c.loop-header.invariant in
+    let so_far = subst (λ ps. Merging 119 out c.loop-header.out.items ps c.loop-header.rest.now (header_pairs e e.kind)
+    e.rest) here c.loop-header.invariant in
     let below = rw name at c.in_ok-rest.ensures in
-    merging-step 119 out c.loop-header.out.items low c.push_header.new.out.items (header_pair e h) (map (header_pair e) (drop (i + 1) hs)) c.loop-header.rest.now c.in_ok-rest.rest.now (header_pairs e e.kind) e.rest
-    so_far (λ first is. below.begun out first at is) below.left (recursion_from_All (λ (m : Member). IsUtf8 m.name) _ below.named)
+    merging-step 119 out c.loop-header.out.items low c.push_header.new.out.items (header_pair e h)
+    (map (header_pair e) (drop (i + 1) hs)) c.loop-header.rest.now c.in_ok-rest.rest.now (header_pairs e e.kind)
+    e.rest
+    so_far (λ first is. below.begun out first at is) below.left
+    (recursion_from_All (λ (m : Member). IsUtf8 m.name) _ below.named)
     (λ first is. c.in_ok-push_header.ensures.begun out first at is) below.utf8 c.in_ok-push_header.ensures.nests
 
 valid : (c : In_ok-push) → IsElement c.args.e.now
@@ -57,11 +62,15 @@ all c =
     let out = c.args.out.now.items in
     let hs = c.headers_of-header-items.result.now in
     let at : c.len-start.result ≡ length out = search rules in
-    let none : map (header_pair e) (drop c.loop-header.header-index hs) ≡ [] = ap (map (header_pair e)) (drop_of_length-le hs c.loop-header-test.false) in
-    let so_far = subst (λ ps. Merging 119 out c.loop-header.out.items ps c.loop-header.rest.now (header_pairs e e.kind) e.rest) none c.loop-header.invariant in
+    let none : map (header_pair e) (drop c.loop-header.header-index hs) ≡ [] =
+    ap (map (header_pair e)) (drop_of_length-le hs c.loop-header-test.false) in
+    let so_far = subst (λ ps. Merging 119 out c.loop-header.out.items ps c.loop-header.rest.now (header_pairs e e.kind)
+    e.rest) none c.loop-header.invariant in
     subst (Merged 119 out c.push.new.self.items) (merged-element e (valid c))
-    (merging-closed 119 out c.loop-header.out.items c.push_members.new.out.items c.push.new.self.items c.loop-header.rest.now (header_pairs e e.kind) e.rest so_far
-    (λ first is. c.in_ok-push_members.ensures.begun out first at is) (recursion_from_All (λ (m : Member). IsUtf8 m.name) _ c.in_ok-push_members.ensures.named)
+    (merging-closed 119 out c.loop-header.out.items c.push_members.new.out.items c.push.new.self.items
+    c.loop-header.rest.now (header_pairs e e.kind) e.rest so_far
+    (λ first is. c.in_ok-push_members.ensures.begun out first at is)
+    (recursion_from_All (λ (m : Member). IsUtf8 m.name) _ c.in_ok-push_members.ensures.named)
     c.in_ok-push.ensures.items ((length-members e)))
 
 pub returns-clause-text : goal.returns-clause-text
@@ -73,16 +82,19 @@ returns-clause-nests c =
 
 pub returns-clause-rise : goal.returns-clause-rise
 returns-clause-rise c =
-    are_rising-from (element_members c.args.e.now) (element-rises c.args.e.now (valid (goal.at.returns-clause-rise c).In_ok-push))
+    are_rising-from (element_members c.args.e.now)
+    (element-rises c.args.e.now (valid (goal.at.returns-clause-rise c).In_ok-push))
 
 pub returns-in_err-rest-clause-kept : goal.returns-in_err-rest-clause-kept
 returns-in_err-rest-clause-kept c =
-    on_err c.from_residual.result (extends_then _ _ _ (extends_by _ _ _ c.loop-header.invariant.begun) c.in_err-rest.ensures.kept)
+    on_err c.from_residual.result (extends_then _ _ _ (extends_by _ _ _ c.loop-header.invariant.begun)
+    c.in_err-rest.ensures.kept)
 
 pub returns-in_err-push_header-clause-kept : goal.returns-in_err-push_header-clause-kept
 returns-in_err-push_header-clause-kept c =
     on_err c.from_residual-in_err-push_header.result
-    (extends_then _ _ _ (extends_by _ _ _ c.loop-header.invariant.begun) (extends_then _ _ _ c.in_ok-rest.ensures.kept c.in_err-push_header.ensures.kept))
+    (extends_then _ _ _ (extends_by _ _ _ c.loop-header.invariant.begun)
+    (extends_then _ _ _ c.in_ok-rest.ensures.kept c.in_err-push_header.ensures.kept))
 
 pub returns-in_err-push_members-clause-kept : goal.returns-in_err-push_members-clause-kept
 returns-in_err-push_members-clause-kept c =

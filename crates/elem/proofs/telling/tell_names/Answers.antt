@@ -6,9 +6,11 @@ use Rattle.elem.proofs.TellingLaws.{each-more, names-each}
 use Rattle.elem.proofs.telling.tell_names.Goals as goal
 
 pub loop-member-preserved : goal.loop-member-preserved
-loop-member-preserved c = each-more (λ (member : Member). IsUtf8 member.name) c.as_slice-member-items.result.now c.loop-member.member-index c.member-item.result (cc) (omega arith) c.loop-member.invariant c.tell_text.ensures
+loop-member-preserved c = each-more (λ (member : Member). IsUtf8 member.name) c.as_slice-member-items.result.now
+    c.loop-member.member-index c.member-item.result (cc) (omega arith) c.loop-member.invariant c.tell_text.ensures
 
 pub returns : goal.returns
 returns c =
     let all : length c.as_slice-member-items.result.now ≤ c.loop-member.member-index = omega arith in
-    names-each _ (subst (AllByRecursion (λ (member : Member). IsUtf8 member.name)) (take_all _ _ all ∙ c.as_slice-member-items.ensures) c.loop-member.invariant)
+    names-each _ (subst (AllByRecursion (λ (member : Member). IsUtf8 member.name)) (take_all _ _ all
+    ∙ c.as_slice-member-items.ensures) c.loop-member.invariant)

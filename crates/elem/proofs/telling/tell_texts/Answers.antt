@@ -5,7 +5,8 @@ use Rattle.elem.proofs.TellingLaws.{each-more}
 use Rattle.elem.proofs.telling.tell_texts.Goals as goal
 
 pub loop-text-preserved : goal.loop-text-preserved
-loop-text-preserved c = each-more IsUtf8 c.as_slice-text-items.result.now c.loop-text.text-index c.text-item.result (cc) (omega arith) c.loop-text.invariant c.tell_text.ensures
+loop-text-preserved c = each-more IsUtf8 c.as_slice-text-items.result.now c.loop-text.text-index c.text-item.result (cc)
+    (omega arith) c.loop-text.invariant c.tell_text.ensures
 
 pub returns : goal.returns
 returns c =

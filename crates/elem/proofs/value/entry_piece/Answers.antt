@@ -7,4 +7,10 @@ use Rattle.elem.proofs.value.entry_piece.Goals as goal
 pub returns : goal.returns
 returns c =
     let text = entry_left c.args.entry.now.id (quote (role_name c.args.entry.now.role)) in
-    rw (← text) (rw (c.member.ensures, c.entry_mark.ensures, c.of-id.ensures, c.as_bytes.ensures.value, c.role_end.ensures) refl)
+    rw (← text) (rw (
+      c.member.ensures,
+      c.entry_mark.ensures,
+      c.of-id.ensures,
+      c.as_bytes.ensures.value,
+      c.role_end.ensures,
+    ) refl)

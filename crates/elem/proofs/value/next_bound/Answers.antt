@@ -8,6 +8,7 @@ pub returns-in-None : goal.returns-in-None
 returns-in-None c =
     let target : Pair = (codes "elementId", quote c.args.target.now) in
     let piece : c.member-piece.result ≡ (if c.args.first then 123 else 44) ∷ member_text target =
-    rw (c.member-piece.ensures, c.object_mark.ensures, c.of-target.ensures, c.as_bytes.ensures.value) (simp append-nil) in
+    rw (c.member-piece.ensures, c.object_mark.ensures, c.of-target.ensures, c.as_bytes.ensures.value)
+    (simp append-nil) in
     header-splits c.args.first target [] c.args.rest.now c.member-piece.result [] c.in-None.ensures
     (record { parts = rw piece (simp append-nil); some = rw piece (omega arith) })

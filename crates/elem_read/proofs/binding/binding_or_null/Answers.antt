@@ -5,5 +5,6 @@ use Rattle.elem_read.proofs.binding.binding_or_null.Goals as goal
 
 pub further-requires : goal.further-requires
 further-requires c =
-    let found : c.members.result ≡ Ok c.in-Some-2.members = c.shaped.ensures.found c.in-Some-2.members (c.in_ok-members.was ∙ ap Ok c.in-Some-2.is) in
+    let found : c.members.result ≡ Ok c.in-Some-2.members =
+    c.shaped.ensures.found c.in-Some-2.members (c.in_ok-members.was ∙ ap Ok c.in-Some-2.is) in
     AreMembers-distinct 127 c.in-Some-2.members (IfOk-at_ok _ found c.members.ensures.kept)

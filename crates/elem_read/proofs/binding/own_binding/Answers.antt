@@ -9,5 +9,6 @@ use Rattle.elem_read.proofs.binding.own_binding.Goals as goal
 
 pub returns-then-own : goal.returns-then-own
 returns-then-own c =
-    subst (λ (own : Bool). Reads (IsOwn own IsBindingOrNull (value_at c.args.name.now (pairs c.args.members.now))) faults.Binding c.binding_or_null.result)
+    subst (λ (own : Bool). Reads (IsOwn own IsBindingOrNull (value_at c.args.name.now (pairs c.args.members.now)))
+    faults.Binding c.binding_or_null.result)
     (sym c.if-own.true) c.binding_or_null.ensures

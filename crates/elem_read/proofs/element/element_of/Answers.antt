@@ -16,7 +16,8 @@ pub returns-in_err-container-clause-fault : goal.returns-in_err-container-clause
 returns-in_err-container-clause-fault c =
     let find : Find = find_in (pairs c.args.members) in
     let p = err_from_is_err_and c.from_residual-in_err-container.result c.from_residual-in_err-container.ensures.1 in
-    rw (p.1, p.2) (λ fault e. own-first find (codes "text") (codes "containerId") IsTextOrNull c.in_ok-kind.kind Container fault _ _ c.is_text.ensures c.in_ok-kind.ensures c.in_err-container.ensures (stop-same _ _ _ e)
+    rw (p.1, p.2) (λ fault e. own-first find (codes "text") (codes "containerId") IsTextOrNull c.in_ok-kind.kind
+    Container fault _ _ c.is_text.ensures c.in_ok-kind.ensures c.in_err-container.ensures (stop-same _ _ _ e)
     (after-bound find _ c.in_ok-bound.ensures
     (after-frame find _ c.in_ok-frame.ensures
     (after-groups find _ c.in_ok-groups.ensures
@@ -32,9 +33,13 @@ returns-in_err-container-clause-fault c =
 pub returns-in_err-start_binding-clause-fault : goal.returns-in_err-start_binding-clause-fault
 returns-in_err-start_binding-clause-fault c =
     let find : Find = find_in (pairs c.args.members) in
-    let p = err_from_is_err_and c.from_residual-in_err-start_binding.result c.from_residual-in_err-start_binding.ensures.1 in
-    rw (p.1, p.2) (λ fault e. own-first find (codes "arrow") (codes "startBinding") IsBindingOrNull c.in_ok-kind.kind Binding fault _ _ c.is_arrow-arrow.ensures c.in_ok-kind.ensures c.in_err-start_binding.ensures (stop-same _ _ _ e)
-    (after-container find c.in_ok-kind.kind _ c.in_ok-kind.ensures (own-at _ _ IsTextOrNull _ _ c.is_text.ensures c.in_ok-container.ensures)
+    let p = err_from_is_err_and c.from_residual-in_err-start_binding.result
+    c.from_residual-in_err-start_binding.ensures.1 in
+    rw (p.1, p.2) (λ fault e. own-first find (codes "arrow") (codes "startBinding") IsBindingOrNull c.in_ok-kind.kind
+    Binding fault _ _ c.is_arrow-arrow.ensures c.in_ok-kind.ensures c.in_err-start_binding.ensures
+    (stop-same _ _ _ e)
+    (after-container find c.in_ok-kind.kind _ c.in_ok-kind.ensures
+    (own-at _ _ IsTextOrNull _ _ c.is_text.ensures c.in_ok-container.ensures)
     (after-bound find _ c.in_ok-bound.ensures
     (after-frame find _ c.in_ok-frame.ensures
     (after-groups find _ c.in_ok-groups.ensures
@@ -50,9 +55,12 @@ returns-in_err-start_binding-clause-fault c =
 pub returns-in_err-end_binding-clause-fault : goal.returns-in_err-end_binding-clause-fault
 returns-in_err-end_binding-clause-fault c =
     let find : Find = find_in (pairs c.args.members) in
-    let p = err_from_is_err_and c.from_residual-in_err-end_binding.result c.from_residual-in_err-end_binding.ensures.1 in
-    rw (p.1, p.2) (λ fault e. own-first find (codes "arrow") (codes "endBinding") IsBindingOrNull c.in_ok-kind.kind Binding fault _ _ c.is_arrow-arrow.ensures c.in_ok-kind.ensures c.in_err-end_binding.ensures (stop-same _ _ _ e)
-    (after-container find c.in_ok-kind.kind _ c.in_ok-kind.ensures (own-at _ _ IsTextOrNull _ _ c.is_text.ensures c.in_ok-container.ensures)
+    let p =
+    err_from_is_err_and c.from_residual-in_err-end_binding.result c.from_residual-in_err-end_binding.ensures.1 in
+    rw (p.1, p.2) (λ fault e. own-first find (codes "arrow") (codes "endBinding") IsBindingOrNull c.in_ok-kind.kind
+    Binding fault _ _ c.is_arrow-arrow.ensures c.in_ok-kind.ensures c.in_err-end_binding.ensures (stop-same _ _ _ e)
+    (after-container find c.in_ok-kind.kind _ c.in_ok-kind.ensures
+    (own-at _ _ IsTextOrNull _ _ c.is_text.ensures c.in_ok-container.ensures)
     (after-bound find _ c.in_ok-bound.ensures
     (after-frame find _ c.in_ok-frame.ensures
     (after-groups find _ c.in_ok-groups.ensures
@@ -69,9 +77,13 @@ pub returns-in_err-file-clause-fault : goal.returns-in_err-file-clause-fault
 returns-in_err-file-clause-fault c =
     let find : Find = find_in (pairs c.args.members) in
     let p = err_from_is_err_and c.from_residual-in_err-file.result c.from_residual-in_err-file.ensures.1 in
-    rw (p.1, p.2) (λ fault e. own-first find (codes "image") (codes "fileId") IsTextOrNull c.in_ok-kind.kind File fault _ _ c.is_image.ensures c.in_ok-kind.ensures c.in_err-file.ensures (stop-same _ _ _ e)
-    (after-bindings find c.in_ok-kind.kind _ _ c.in_ok-kind.ensures (own-at _ _ IsBindingOrNull _ _ c.is_arrow-arrow.ensures c.in_ok-start_binding.ensures) (own-at _ _ IsBindingOrNull _ _ c.is_arrow-arrow.ensures c.in_ok-end_binding.ensures)
-    (after-container find c.in_ok-kind.kind _ c.in_ok-kind.ensures (own-at _ _ IsTextOrNull _ _ c.is_text.ensures c.in_ok-container.ensures)
+    rw (p.1, p.2) (λ fault e. own-first find (codes "image") (codes "fileId") IsTextOrNull c.in_ok-kind.kind File fault
+    _ _ c.is_image.ensures c.in_ok-kind.ensures c.in_err-file.ensures (stop-same _ _ _ e)
+    (after-bindings find c.in_ok-kind.kind _ _ c.in_ok-kind.ensures
+    (own-at _ _ IsBindingOrNull _ _ c.is_arrow-arrow.ensures c.in_ok-start_binding.ensures)
+    (own-at _ _ IsBindingOrNull _ _ c.is_arrow-arrow.ensures c.in_ok-end_binding.ensures)
+    (after-container find c.in_ok-kind.kind _ c.in_ok-kind.ensures
+    (own-at _ _ IsTextOrNull _ _ c.is_text.ensures c.in_ok-container.ensures)
     (after-bound find _ c.in_ok-bound.ensures
     (after-frame find _ c.in_ok-frame.ensures
     (after-groups find _ c.in_ok-groups.ensures
@@ -101,7 +113,8 @@ returns-clause-says c =
       start_binding = own-at _ _ IsBindingOrNull _ _ c.is_arrow-arrow.ensures c.in_ok-start_binding.ensures;
       end_binding = own-at _ _ IsBindingOrNull _ _ c.is_arrow-arrow.ensures c.in_ok-end_binding.ensures;
       file = own-at _ _ IsTextOrNull _ _ c.is_image.ensures c.in_ok-file.ensures;
-      rest = subst (AreOthers (is_header c.in_ok-kind.kind) (find_in (pairs c.args.members))) (sym c.others-rest.ensures) (kept-others (is_header c.in_ok-kind.kind) c.args.members c.requires.rise);
+      rest = subst (AreOthers (is_header c.in_ok-kind.kind) (find_in (pairs c.args.members)))
+          (sym c.others-rest.ensures) (kept-others (is_header c.in_ok-kind.kind) c.args.members c.requires.rise);
     }
 
 pub invariant_of-result : goal.invariant_of-result
@@ -122,5 +135,6 @@ invariant_of-result c =
       start_binding = own-at _ _ IsBindingOrNull _ _ c.is_arrow-arrow.ensures c.in_ok-start_binding.ensures;
       end_binding = own-at _ _ IsBindingOrNull _ _ c.is_arrow-arrow.ensures c.in_ok-end_binding.ensures;
       file = own-at _ _ IsTextOrNull _ _ c.is_image.ensures c.in_ok-file.ensures;
-      rest = subst (AreOthers (is_header c.in_ok-kind.kind) (find_in (pairs c.args.members))) (sym c.others-rest.ensures) (kept-others (is_header c.in_ok-kind.kind) c.args.members c.requires.rise);
+      rest = subst (AreOthers (is_header c.in_ok-kind.kind) (find_in (pairs c.args.members)))
+          (sym c.others-rest.ensures) (kept-others (is_header c.in_ok-kind.kind) c.args.members c.requires.rise);
     })

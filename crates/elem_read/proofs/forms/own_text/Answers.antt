@@ -8,5 +8,6 @@ use Rattle.elem_read.proofs.forms.own_text.Goals as goal
 
 pub returns-then-own : goal.returns-then-own
 returns-then-own c =
-    subst (λ (own : Bool). Reads (IsOwn own IsTextOrNull (value_at c.args.name.now (pairs c.args.members.now))) c.args.fault c.text_or_null.result)
+    subst (λ (own : Bool). Reads (IsOwn own IsTextOrNull (value_at c.args.name.now (pairs c.args.members.now)))
+    c.args.fault c.text_or_null.result)
     (sym c.if-own.true) c.text_or_null.ensures

@@ -17,7 +17,8 @@ returns-in_err-read-clause-fault c =
     let r = c.loop-elements.invariant.read values left in
     let next = MatchOption-at_some _ _ c.in-Some.taken c.in-Some.is (c.in_ok-taken.ensures.next _ r.left) in
     subst (λ place. IsFirstFaulty values place faulty.fault) (sym told.0)
-    (IsReadTo-faulty values c.loop-elements.objects c.next.new.self c.loop-elements.place c.loop-elements.elements.items next.0 next.1 r next.2 next.3 faulty.fault
+    (IsReadTo-faulty values c.loop-elements.objects c.next.new.self c.loop-elements.place c.loop-elements.elements.items
+    next.0 next.1 r next.2 next.3 faulty.fault
     (c.read_members.ensures.fault faulty.fault told.1 next.0 next.4)))
 
 pub loop-elements-preserved : goal.loop-elements-preserved
@@ -27,8 +28,10 @@ loop-elements-preserved c =
       few = omega (arith, c.loop-elements.invariant.few, passed);
       whole = elim c.match-read.branch [
         | in-Some-read+in_ok-push w ↦ rw (w.elements-is, w.in_ok-push.ensures.items)
-            (All-push IsWholeElement c.loop-elements.elements.items w.in-Some-read.element c.loop-elements.invariant.whole
-            (subst (λ found. IfSome found IsWholeElement) w.in-Some-read.is (IfOk-at_ok _ c.in_ok-read.ensures.read c.read_members.ensures.whole)))
+            (All-push IsWholeElement c.loop-elements.elements.items w.in-Some-read.element
+            c.loop-elements.invariant.whole
+            (subst (λ found. IfSome found IsWholeElement) w.in-Some-read.is
+            (IfOk-at_ok _ c.in_ok-read.ensures.read c.read_members.ensures.whole)))
         | in_default-read w ↦ rw w.elements-is c.loop-elements.invariant.whole
       ];
       behind = λ members are. c.next.ensures.behind members (c.loop-elements.invariant.behind members are);
@@ -38,11 +41,14 @@ loop-elements-preserved c =
           let read = (IfOk-at_ok _ c.in_ok-read.ensures.read c.read_members.ensures.read) next.0 next.4 in
           elim c.match-read.branch [
             | in-Some-read+in_ok-push w ↦ rw w.elements-is
-                (IsReadTo-more values c.loop-elements.objects c.next.new.self c.loop-elements.place c.loop-elements.elements.items next.0 next.1 r next.2 next.3 w.push.new.self.items w.in-Some-read.element
+                (IsReadTo-more values c.loop-elements.objects c.next.new.self c.loop-elements.place
+                c.loop-elements.elements.items next.0 next.1 r next.2 next.3 w.push.new.self.items
+                w.in-Some-read.element
                 (MatchOption-at_some _ _ w.in-Some-read.element w.in-Some-read.is read) w.in_ok-push.ensures.items)
             | in_default-read w ↦ rw w.elements-is
                 (let none : c.in_ok-read.read ≡ None = cc in
-                IsReadTo-dropped values c.loop-elements.objects c.next.new.self c.loop-elements.place c.loop-elements.elements.items next.0 next.1 r next.2 next.3 (MatchOption-at_none _ _ none read))
+                IsReadTo-dropped values c.loop-elements.objects c.next.new.self c.loop-elements.place
+                c.loop-elements.elements.items next.0 next.1 r next.2 next.3 (MatchOption-at_none _ _ none read))
           ];
     }
 
@@ -51,4 +57,5 @@ returns-clause-read c =
     λ values left.
     let r = c.loop-elements.invariant.read values left in
     let none = MatchOption-at_none _ _ c.in_default.is (c.in_ok-taken.ensures.next _ r.left) in
-    subst (AreRead values) (sym c.from_vec.ensures) (IsReadTo-all values c.loop-elements.objects c.loop-elements.place c.loop-elements.elements.items r none)
+    subst (AreRead values) (sym c.from_vec.ensures) (IsReadTo-all values c.loop-elements.objects c.loop-elements.place
+    c.loop-elements.elements.items r none)

@@ -30,11 +30,13 @@ loop-place-preserved c =
     let within : i < length values = omega (arith, ap length c.as_slice-value-items.ensures) in
     elim c.match-read.branch [
       | in-Some+in_ok-push w ↦ rw w.elements-is
-          (read-more values i v c.loop-place.elements.items w.push.new.self.items w.in-Some.element within at c.loop-place.invariant
+          (read-more values i v c.loop-place.elements.items w.push.new.self.items w.in-Some.element within at
+          c.loop-place.invariant
           (MatchOption-at_some _ _ w.in-Some.element w.in-Some.is c.in_ok-read.ensures.read) w.in_ok-push.ensures.items)
       | in_default w ↦ rw w.elements-is
           (let none : c.in_ok-read.read ≡ None = cc in
-          dropped-more values i v c.loop-place.elements.items within at c.loop-place.invariant (MatchOption-at_none _ _ none c.in_ok-read.ensures.read))
+          dropped-more values i v c.loop-place.elements.items within at c.loop-place.invariant
+          (MatchOption-at_none _ _ none c.in_ok-read.ensures.read))
     ]
 
 pub returns-clause-whole : goal.returns-clause-whole

@@ -22,7 +22,8 @@ pub returns-then-not-is_shallow-clause-fault : goal.returns-then-not-is_shallow-
 unfolding quote
 returns-then-not-is_shallow-clause-fault c = λ fault e value taken.
     let object = taken-object value c.args.taken c.in-Some.given taken c.in-Some.is in
-    let draws = no_selection value (pairs c.in-Some.given) object (λ e. both_ways _ c.if-has_value.false (c.has_value.ensures.1 e)) in
+    let draws = no_selection value (pairs c.in-Some.given) object
+    (λ e. both_ways _ c.if-has_value.false (c.has_value.ensures.1 e)) in
     let same : Depth ≡ fault = cc in
     subst (IsFaultIn value) same (record {
       members = pairs c.in-Some.given;
@@ -32,12 +33,14 @@ returns-then-not-is_shallow-clause-fault c = λ fault e value taken.
 
 pub into_restored-requires : goal.into_restored-requires
 into_restored-requires c =
-    AreMembers-distinct 127 c.in-Some.given (taken-object c.requires.0 c.args.taken c.in-Some.given c.requires.1 c.in-Some.is).are_members
+    AreMembers-distinct 127 c.in-Some.given (taken-object c.requires.0 c.args.taken c.in-Some.given c.requires.1
+    c.in-Some.is).are_members
 
 pub element_of-requires-clause-kept : goal.element_of-requires-clause-kept
 unfolding quote
 element_of-requires-clause-kept c =
-    kind-stays (pairs c.in-Some.given) (pairs c.in_ok-restored.restored) c.in_ok-restored.ensures.restored (λ e. both_ways _ c.if-has_value.false (c.has_value.ensures.1 e))
+    kind-stays (pairs c.in-Some.given) (pairs c.in_ok-restored.restored) c.in_ok-restored.ensures.restored
+    (λ e. both_ways _ c.if-has_value.false (c.has_value.ensures.1 e))
 
 pub element_of-requires-clause-nest : goal.element_of-requires-clause-nest
 element_of-requires-clause-nest c =
@@ -53,18 +56,22 @@ returns-in_err-element-clause-fault c =
     let p = err_from_is_err_and c.from_residual-in_err-element.result c.from_residual-in_err-element.ensures.1 in
     rw (p.1, p.2) (λ fault e value taken.
     let object = taken-object value c.args.taken c.in-Some.given taken c.in-Some.is in
-    let draws = no_selection value (pairs c.in-Some.given) object (λ e. both_ways _ c.if-has_value.false (c.has_value.ensures.1 e)) in
+    let draws = no_selection value (pairs c.in-Some.given) object
+    (λ e. both_ways _ c.if-has_value.false (c.has_value.ensures.1 e)) in
     let shallow = (c.is_shallow.ensures value object).0 c.if-not-is_shallow.false in
-    fault-in value (pairs c.in-Some.given) (pairs c.in_ok-restored.restored) fault draws shallow c.in_ok-restored.ensures.restored
+    fault-in value (pairs c.in-Some.given) (pairs c.in_ok-restored.restored) fault draws shallow
+    c.in_ok-restored.ensures.restored
     (c.in_err-element.ensures.fault fault (ap Err (stop-same _ _ _ e))))
 
 pub returns-clause-read : goal.returns-clause-read
 unfolding quote
 returns-clause-read c = λ value taken.
     let object = taken-object value c.args.taken c.in-Some.given taken c.in-Some.is in
-    let draws = no_selection value (pairs c.in-Some.given) object (λ e. both_ways _ c.if-has_value.false (c.has_value.ensures.1 e)) in
+    let draws = no_selection value (pairs c.in-Some.given) object
+    (λ e. both_ways _ c.if-has_value.false (c.has_value.ensures.1 e)) in
     let shallow = (c.is_shallow.ensures value object).0 c.if-not-is_shallow.false in
-    element-in value (pairs c.in-Some.given) (pairs c.in_ok-restored.restored) c.in_ok-element.element draws shallow c.in_ok-restored.ensures.restored c.in_ok-element.ensures.says
+    element-in value (pairs c.in-Some.given) (pairs c.in_ok-restored.restored) c.in_ok-element.element draws shallow
+    c.in_ok-restored.ensures.restored c.in_ok-element.ensures.says
 
 pub returns-clause-whole : goal.returns-clause-whole
 unfolding quote
@@ -72,7 +79,9 @@ returns-clause-whole c =
     let value = c.requires.0 in
     let taken = c.requires.1 in
     let object = taken-object value c.args.taken c.in-Some.given taken c.in-Some.is in
-    let draws = no_selection value (pairs c.in-Some.given) object (λ e. both_ways _ c.if-has_value.false (c.has_value.ensures.1 e)) in
+    let draws = no_selection value (pairs c.in-Some.given) object
+    (λ e. both_ways _ c.if-has_value.false (c.has_value.ensures.1 e)) in
     let shallow = (c.is_shallow.ensures value object).0 c.if-not-is_shallow.false in
     whole value c.in_ok-element.element
-    (element-in value (pairs c.in-Some.given) (pairs c.in_ok-restored.restored) c.in_ok-element.element draws shallow c.in_ok-restored.ensures.restored c.in_ok-element.ensures.says)
+    (element-in value (pairs c.in-Some.given) (pairs c.in_ok-restored.restored) c.in_ok-element.element draws shallow
+    c.in_ok-restored.ensures.restored c.in_ok-element.ensures.says)

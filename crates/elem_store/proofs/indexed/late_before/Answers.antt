@@ -7,7 +7,8 @@ pub loop-low-preserved-then-index-saturating_sub : goal.loop-low-preserved-then-
 loop-low-preserved-then-index-saturating_sub c = record {
   order = omega arith;
   in_range = c.loop-low.invariant.in_range;
-  before = before-middle c.args.late.now.items c.args.i _ c.index.result.now c.requires (omega (arith, c.loop-low.invariant.in_range)) c.index.ensures (omega arith);
+  before = before-middle c.args.late.now.items c.args.i _ c.index.result.now c.requires
+      (omega (arith, c.loop-low.invariant.in_range)) c.index.ensures (omega arith);
   after = c.loop-low.invariant.after;
 }
 
@@ -16,7 +17,8 @@ loop-low-preserved c = record {
   order = omega arith;
   in_range = omega (arith, c.loop-low.invariant.in_range);
   before = c.loop-low.invariant.before;
-  after = after-middle c.args.late.now.items c.args.i _ c.index.result.now c.requires (omega (arith, c.loop-low.invariant.in_range)) c.index.ensures (omega arith);
+  after = after-middle c.args.late.now.items c.args.i _ c.index.result.now c.requires
+      (omega (arith, c.loop-low.invariant.in_range)) c.index.ensures (omega arith);
 }
 
 pub returns : goal.returns

@@ -14,10 +14,19 @@ loop-last-preserved c =
     let count = ap length parts ∙ length-append late.items (l ∷ []) in
     record {
       gaps = gaps-last _ late.items l gaps;
-      room = omega (arith, length-set c.move_up.new.settled.items (l.gap + c.len-in-Some-2.result) l.place, c.move_up.ensures.count, c.move_up.new.settled.ok.0, c.loop-last.settled.ok.0, c.loop-last.invariant.room);
+      room = omega (
+        arith,
+        length-set c.move_up.new.settled.items (l.gap + c.len-in-Some-2.result) l.place,
+        c.move_up.ensures.count,
+        c.move_up.new.settled.ok.0,
+        c.loop-last.settled.ok.0,
+        c.loop-last.invariant.room,
+      );
       places =
-          settled-more c.loop-last.settled.items c.move_up.new.settled.items c.loop-last.late.items late.items l c.loop-last.end c.len-in-Some.result c.len-in-Some-2.result
-          parts (c.len-in-Some.ensures ∙ late.ok.0) (c.len-in-Some-2.ensures ∙ late.ok.0) c.loop-last.invariant.gaps c.loop-last.invariant.room c.move_up.ensures.moved
+          settled-more c.loop-last.settled.items c.move_up.new.settled.items c.loop-last.late.items late.items l
+          c.loop-last.end c.len-in-Some.result c.len-in-Some-2.result
+          parts (c.len-in-Some.ensures ∙ late.ok.0) (c.len-in-Some-2.ensures ∙ late.ok.0) c.loop-last.invariant.gaps
+          c.loop-last.invariant.room c.move_up.ensures.moved
           ∙ c.loop-last.invariant.places;
       count = c.move_up.ensures.count ∙ c.loop-last.invariant.count;
       kept = omega (arith, c.loop-last.invariant.kept, c.move_up.ensures.kept);

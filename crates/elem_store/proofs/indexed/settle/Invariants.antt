@@ -7,7 +7,8 @@ abbrev pub invariant-loop-last : goal.invariant-loop-last
 invariant-loop-last l = record {
   gaps : AreGaps l.end l.late.items;
   room : l.end + length l.late.items ≤ length l.settled.items;
-  places : woven (take l.end l.settled.items) l.late.items ++ drop (l.end + length l.late.items) l.settled.items ≡ woven l.fn.settled.items l.fn.late.items;
+  places : woven (take l.end l.settled.items) l.late.items ++ drop (l.end + length l.late.items) l.settled.items
+      ≡ woven l.fn.settled.items l.fn.late.items;
   count : vec_len l.settled ≡ vec_len l.fn.settled + vec_len l.fn.late;
   kept : vec_capacity l.fn.settled ≤ vec_capacity l.settled;
 }

@@ -8,7 +8,8 @@ use Rattle.elem_store.proofs.places.moved_out.Goals.{in-Some+in_ok-push, in_defa
 pub loop-i-init : goal.loop-i-init
 loop-i-init c = record {
   moved = c.in_ok-moved.ensures.items;
-  left = λ k le l. rw c.in_ok-slots.ensures (slot_at-filled c.args.elements.items c.args.places.now.places _ c.requires.in_order.within);
+  left = λ k le l. rw c.in_ok-slots.ensures (slot_at-filled c.args.elements.items c.args.places.now.places _
+      c.requires.in_order.within);
 }
 
 pub loop-i-preserved : goal.loop-i-preserved
@@ -19,10 +20,13 @@ loop-i-preserved c =
     let is = c.take_at.ensures.taken ∙ c.loop-i.invariant.left i (omega arith) c.loop-i-test.true in
     record {
       moved = elim c.match-take_at.branch [
-        | in-Some+in_ok-push w ↦ rw (w.moved-is, w.in_ok-push.ensures.items) (moved_more f indices i _ _ _ c.loop-i-test.true c.loop-i.invariant.moved (sym w.in-Some.is ∙ is))
-        | in_default w ↦ rw w.moved-is (sym (append-nil _) ∙ moved_more f indices i _ _ _ c.loop-i-test.true c.loop-i.invariant.moved (sym w.in_default.is ∙ is))
+        | in-Some+in_ok-push w ↦ rw (w.moved-is, w.in_ok-push.ensures.items)
+            (moved_more f indices i _ _ _ c.loop-i-test.true c.loop-i.invariant.moved (sym w.in-Some.is ∙ is))
+        | in_default w ↦ rw w.moved-is (sym (append-nil _)
+            ∙ moved_more f indices i _ _ _ c.loop-i-test.true c.loop-i.invariant.moved (sym w.in_default.is ∙ is))
       ];
       left = λ k le l. rw c.take_at.ensures.left
-          (slot_at-other c.args.elements.items c.args.places.now.places c.requires.in_order c.loop-i.slots.items _ _ (λ same. c.requires.distinct i k 0 (omega (arith, le)) l (sym same))
+          (slot_at-other c.args.elements.items c.args.places.now.places c.requires.in_order c.loop-i.slots.items _ _
+          (λ same. c.requires.distinct i k 0 (omega (arith, le)) l (sym same))
           ∙ c.loop-i.invariant.left k (omega (arith, le)) l);
     }

@@ -7,5 +7,6 @@ pub returns-clause-yes : goal.returns-clause-yes
 returns-clause-yes c = λ ends.
     let head = c.args.head.now in
     let at = length head - 7 in
-    let same : codes ";base64" ≡ drop at head = (bytes_eq-Decides (codes ";base64") (drop at head)).0 (sym c.ends_with.ensures.value ∙ ends) in
+    let same : codes ";base64" ≡ drop at head =
+    (bytes_eq-Decides (codes ";base64") (drop at head)).0 (sym c.ends_with.ensures.value ∙ ends) in
     (take at head, sym (take-append-drop at head) ∙ ap (λ x. take at head ++ x) (sym same))

@@ -28,5 +28,8 @@ returns-clause-base64 c = λ fault.
     let entry = c.args.entry.now in
     let content = c.in-Some-content_of.content.now in
     let one = subst (IsTheOne (HasUrl entry)) c.in-Some.is c.in_ok-url.ensures in
-    let is = subst (λ u. IsDataUrl u content) c.as_bytes.ensures.value c.in-Some-content_of.ensures in
-    (content, record { url = c.in-Some.url; has_url = one.0; is_data_url = is }, size-none entry c.in-Some.url content one.1 is (c.decoded_size.ensures.base64 fault))
+    let is = subst (λ u. IsDataUrl u content) c.as_bytes.ensures.value c.in-Some-content_of.ensures in (
+      content,
+      record { url = c.in-Some.url; has_url = one.0; is_data_url = is },
+      size-none entry c.in-Some.url content one.1 is (c.decoded_size.ensures.base64 fault),
+    )

@@ -11,8 +11,10 @@ loop-id-preserved-in-Continue-branch-2 c =
     ap pairs c.in_ok-push.ensures.items
     ∙ map-append pair_of c.loop-id.members.items (record { name = c.in-Some.id; value = value } ∷ [])
     ∙ ap (λ x. x ++ (c.in-Some.id, value) ∷ []) c.loop-id.invariant
-    ∙ sym (found-some files c.loop-id.yielded c.in-Some.id value (sym c.in-Some-entry_of.ensures ∙ ap Some (sym c.in_ok-value.ensures)))
+    ∙ sym (found-some files c.loop-id.yielded c.in-Some.id value (sym c.in-Some-entry_of.ensures
+    ∙ ap Some (sym c.in_ok-value.ensures)))
 
 pub loop-id-preserved : goal.loop-id-preserved
 loop-id-preserved c =
-    c.loop-id.invariant ∙ sym (found-none c.args.entries.now.entries c.loop-id.yielded c.in-Some.id (sym c.in_default.ensures))
+    c.loop-id.invariant
+    ∙ sym (found-none c.args.entries.now.entries c.loop-id.yielded c.in-Some.id (sym c.in_default.ensures))

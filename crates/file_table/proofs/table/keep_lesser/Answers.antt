@@ -14,8 +14,10 @@ returns-in_ok-insert-clause-taken c =
 pub returns-in_ok-insert-clause-table : goal.returns-in_ok-insert-clause-table
 returns-in_ok-insert-clause-table c =
     let e = c.in_ok-insert.ensures in
-    HaveFiles-insert c.args.entries.now.entries c.insert.new.self.entries c.args.id c.args.entry c.requires.table c.requires.nest e.entries e.unique
+    HaveFiles-insert c.args.entries.now.entries c.insert.new.self.entries c.args.id c.args.entry c.requires.table
+    c.requires.nest e.entries e.unique
 
 pub returns-else-takes_place-clause-taken : goal.returns-else-takes_place-clause-taken
 returns-else-takes_place-clause-taken c =
-    by_id-kept c.args.entries.now.entries c.args.id c.args.entry c.requires.table (sym c.takes_place.ensures ∙ c.if-takes_place.false)
+    by_id-kept c.args.entries.now.entries c.args.id c.args.entry c.requires.table (sym c.takes_place.ensures
+    ∙ c.if-takes_place.false)

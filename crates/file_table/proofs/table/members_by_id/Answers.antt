@@ -18,7 +18,11 @@ returns c =
     let ws = c.sort_by.new.self.items in
     let files = c.args.entries.now.entries in
     let up : IsSortedBy lower ws =
-    c.in_ok-sort_by.ensures.sorted lower (ranks_by nat_list_cmp_total (λ (m : Member). m.name)) (answers_always _ _ _ (λ f a r g h. search rules)) in
-    let moved : IsPermutation files (pairs ws) = subst (λ x. IsPermutation x (pairs ws)) c.in_ok-members.ensures (IsPermutation-map pair_of us ws c.in_ok-sort_by.ensures.permutation) in
+    c.in_ok-sort_by.ensures.sorted lower (ranks_by nat_list_cmp_total (λ (m : Member). m.name))
+    (answers_always _ _ _ (λ f a r g h. search rules)) in
+    let moved : IsPermutation files (pairs ws) =
+    subst (λ x. IsPermutation x (pairs ws)) c.in_ok-members.ensures
+    (IsPermutation-map pair_of us ws c.in_ok-sort_by.ensures.permutation) in
     let distinct = distinct_moved files (pairs ws) moved c.requires.distinct in
-    moved-by_id files (pairs ws) c.requires.distinct moved (rising_from_sort ws up (subst (IsDistinct bytes_eq) (names-pairs ws) distinct))
+    moved-by_id files (pairs ws) c.requires.distinct moved
+    (rising_from_sort ws up (subst (IsDistinct bytes_eq) (names-pairs ws) distinct))

@@ -10,16 +10,26 @@ returns-in-Some c =
     let i = c.args.integer.now in
     let at = c.in-Some.at in
     let front = length-take-le at i (omega (arith, c.in-Some.ensures.place.1)) in
-    let is = stepped_at 122 48 next_digit next_head i at c.in-Some.ensures.place.0 c.in-Some.ensures.place.1 c.in-Some.ensures.other c.in-Some.ensures.behind in
+    let is = stepped_at 122 48 next_digit next_head i at c.in-Some.ensures.place.0 c.in-Some.ensures.place.1
+    c.in-Some.ensures.other c.in-Some.ensures.behind in
     rw (c.in_ok-above.ensures, c.digit_byte-next.ensures, c.digit_value.ensures.value, front, is) refl
 
 pub returns-in_default-next_head : goal.returns-in_default-next_head
 returns-in_default-next_head c =
     let i = c.args.integer.now in
-    rw (stepped_head 122 48 next_digit next_head i (is_integer-some i c.requires) c.in_default.ensures.none, ← c.in_default-next_head.ensures.value) refl
+    rw (
+      stepped_head 122 48 next_digit next_head i (is_integer-some i c.requires) c.in_default.ensures.none,
+      ← c.in_default-next_head.ensures.value,
+    ) refl
 
 pub returns : goal.returns
 returns c =
     let i = c.args.integer.now in
     let long : 1 + digit_count c.in-Some-next_head.head - 0 - 1 ≡ digit_count c.in-Some-next_head.head = omega arith in
-    rw (stepped_head 122 48 next_digit next_head i (is_integer-some i c.requires) c.in_default.ensures.none, ← c.in-Some-next_head.ensures.value, c.in_ok-above-2.ensures, c.digit_count.ensures.value, long) refl
+    rw (
+      stepped_head 122 48 next_digit next_head i (is_integer-some i c.requires) c.in_default.ensures.none,
+      ← c.in-Some-next_head.ensures.value,
+      c.in_ok-above-2.ensures,
+      c.digit_count.ensures.value,
+      long,
+    ) refl

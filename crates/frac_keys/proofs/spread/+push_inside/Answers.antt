@@ -16,7 +16,8 @@ push_inside-requires-2 t c =
         c.requires.a,
         (
           c.requires.b,
-          rw (c.in_ok-push.ensures.items, last_or-push) (and_parts _ (ends_rise (Some c.in_ok-key.key) (option_copied c.args.b)) inside).1,
+          rw (c.in_ok-push.ensures.items, last_or-push)
+              (and_parts _ (ends_rise (Some c.in_ok-key.key) (option_copied c.args.b)) inside).1,
         ),
       ),
     )
@@ -25,5 +26,7 @@ pub returns : goal.returns
 returns t c =
     let some : 0 < c.args.n = omega arith in
     let key = rw (c.last_or.ensures.value, c.deref.ensures.value) at c.in_ok-key.ensures.exact in
-    let joined = keys_inside-joined c.args.keys.now.items (last_or (option_copied c.args.a) c.args.keys.now.items) (option_copied c.args.b) c.in_ok-key.key c.args.n some key in
-    IfOk-equal c.push_inside-2.result _ _ _ c.push_inside-2.ensures (rw (c.in_ok-push.ensures.items, last_or-push, c.in_ok-push_inside.ensures, c.as_bytes.ensures.value) joined)
+    let joined = keys_inside-joined c.args.keys.now.items (last_or (option_copied c.args.a) c.args.keys.now.items)
+    (option_copied c.args.b) c.in_ok-key.key c.args.n some key in
+    IfOk-equal c.push_inside-2.result _ _ _ c.push_inside-2.ensures
+    (rw (c.in_ok-push.ensures.items, last_or-push, c.in_ok-push_inside.ensures, c.as_bytes.ensures.value) joined)

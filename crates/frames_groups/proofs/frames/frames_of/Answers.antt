@@ -19,7 +19,8 @@ loop-e-preserved c =
     (elim c.if-is_frame.branch [
       | then-is_frame+in_ok-try_clone+in_ok-insert w ↦
           subst (λ s. HasFrames s (take i all ++ e ∷ [])) (sym w.frames-is)
-          (HasFrames-frame c.loop-e.frames w.insert.new.self (take i all) e w.in_ok-try_clone.field-0 has w.in_ok-insert.ensures.updates
+          (HasFrames-frame c.loop-e.frames w.insert.new.self (take i all) e w.in_ok-try_clone.field-0 has
+          w.in_ok-insert.ensures.updates
           (w.in_ok-try_clone.ensures ∙ ap (λ (d : ElementValue). d.id) c.e.view_is)
           (sym c.is_frame.ensures ∙ w.if-is_frame.true))
       | else-is_frame w ↦

@@ -16,4 +16,5 @@ pub returns-clause-others : goal.returns-clause-others
 returns-clause-others c = ap (map without_frame) (returns-clause-exact c) ∙ frames_settled-others c.args.list
 
 pub returns-clause-again : goal.returns-clause-again
-returns-clause-again c = ap frames_settled (returns-clause-exact c) ∙ frames_settled-settled c.args.list ∙ sym (returns-clause-exact c)
+returns-clause-again c =
+    ap frames_settled (returns-clause-exact c) ∙ frames_settled-settled c.args.list ∙ sym (returns-clause-exact c)

@@ -15,4 +15,5 @@ grouped-one e few = ap (with_groups e) (sym (first_texts-one e.groups few))
 
 pub returns-then-as_slice-le1 : goal.returns-then-as_slice-le1
 returns-then-as_slice-le1 c =
-    subst (λ (e : ElementValue). e ≡ grouped e) c.e.view_is (grouped-one _ (subst (λ groups. length groups ≤ 1) c.as_slice.ensures c.if-as_slice-le1.true))
+    subst (λ (e : ElementValue). e ≡ grouped e) c.e.view_is
+    (grouped-one _ (subst (λ groups. length groups ≤ 1) c.as_slice.ensures c.if-as_slice-le1.true))

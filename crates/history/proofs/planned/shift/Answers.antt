@@ -17,7 +17,8 @@ loop-moved-preserved c =
       to =
           moved.1 ∙ ap (λ ys. ys ++ inverses at.0 ∷ []) c.loop-moved.invariant.to
           ∙ append_assoc c.args.to.now.items (map inverses (reverse (last_of i xs))) (inverses at.0 ∷ [])
-          ∙ ap (λ ys. c.args.to.now.items ++ ys) (sym (ap (λ ys. map inverses (reverse ys)) at.2 ∙ moved-more (last_of i xs) at.0));
+          ∙ ap (λ ys. c.args.to.now.items ++ ys) (sym (ap (λ ys. map inverses (reverse ys)) at.2
+          ∙ moved-more (last_of i xs) at.0));
       count = omega (arith, c.loop-moved.invariant.count, c.move_last.ensures.from_count);
       total = omega (arith, c.loop-moved.invariant.total, c.move_last.ensures.from_count, c.move_last.ensures.to_count);
       room = c.move_last.ensures.room ∙ c.loop-moved.invariant.room;

@@ -14,8 +14,10 @@ use Rattle.history.proofs.step.planned.Goals as goal
 pub revert-requires-clause-id : goal.revert-requires-clause-id
 revert-requires-clause-id c =
     let stored : element_of c.args.store.now.elements c.part-item.result.id ≡ Some c.unwrap-now.result.now =
-    ap (λ (part : Delta). element_of c.args.store.now.elements part.id) (sym c.part.view_is) ∙ sym c.get.ensures.element ∙ ap option_copied c.unwrap-now.ensures in
-    same_id c.part-item.result.id c.unwrap-now.result.now (find-Some (has_id c.part-item.result.id) c.args.store.now.elements c.unwrap-now.result.now stored).1
+    ap (λ (part : Delta). element_of c.args.store.now.elements part.id) (sym c.part.view_is) ∙ sym c.get.ensures.element
+    ∙ ap option_copied c.unwrap-now.ensures in
+    same_id c.part-item.result.id c.unwrap-now.result.now
+    (find-Some (has_id c.part-item.result.id) c.args.store.now.elements c.unwrap-now.result.now stored).1
 
 pub returns-in_err-revert-clause-full : goal.returns-in_err-revert-clause-full
 returns-in_err-revert-clause-full c =
@@ -27,14 +29,17 @@ returns-in_err-revert-clause-full c =
     let here : part ≡ get_or items i part = cc in
     let within : i < length items = omega arith in
     let stored : element_of store part.id ≡ Some now =
-    ap (λ (part : Delta). element_of store part.id) (sym c.part.view_is) ∙ sym c.get.ensures.element ∙ ap option_copied c.unwrap-now.ensures in
+    ap (λ (part : Delta). element_of store part.id) (sym c.part.view_is) ∙ sym c.get.ensures.element
+    ∙ ap option_copied c.unwrap-now.ensures in
     let rising = subst AreParts (sym c.as_slice-part-items.ensures) c.entry.invariant in
     let next = next-part items i part within here rising in
     let p = err_from_is_err_and c.from_residual.result c.from_residual.ensures.1 in
     rw (p.1, p.2)
     (OnFull-weaker _ (λ id. (id ≡ part.id) × IsFull part now) (IsLeastFull c.args.entry.now store)
-    (λ id found. subst₂ (λ parts id. IsLeastFull parts store id) (sym next.2 ∙ c.as_slice-part-items.ensures ∙ c.entry.view_is) (sym found.0)
-    (least-full store (take i items) (drop (i + 1) items) part now (subst (λ xs. are_rising (part_ids xs) ≡ true) next.2 rising) c.loop-part.invariant.none_full stored found.1))
+    (λ id found. subst₂ (λ parts id. IsLeastFull parts store id) (sym next.2 ∙ c.as_slice-part-items.ensures
+    ∙ c.entry.view_is) (sym found.0)
+    (least-full store (take i items) (drop (i + 1) items) part now
+    (subst (λ xs. are_rising (part_ids xs) ≡ true) next.2 rising) c.loop-part.invariant.none_full stored found.1))
     c.in_err-revert.ensures.full)
 
 pub loop-part-preserved : goal.loop-part-preserved
@@ -45,7 +50,10 @@ loop-part-preserved c =
     let here : part ≡ get_or items i part = cc in
     let within : i < length items = omega arith in
     let stored : element_of c.args.store.now.elements part.id ≡ Some c.unwrap-now.result.now =
-    ap (λ (part : Delta). element_of c.args.store.now.elements part.id) (sym c.part.view_is) ∙ sym c.get.ensures.element ∙ ap option_copied c.unwrap-now.ensures in
-    let next = next-part items i part within here (subst AreParts (sym c.as_slice-part-items.ensures) c.entry.invariant) in
-    subst (λ parts. IsStep parts c.args.store.now.elements c.args.time c.args.nonce c.revert.new.given.items c.revert.new.made.items) (sym next.0)
+    ap (λ (part : Delta). element_of c.args.store.now.elements part.id) (sym c.part.view_is) ∙ sym c.get.ensures.element
+    ∙ ap option_copied c.unwrap-now.ensures in
+    let next =
+    next-part items i part within here (subst AreParts (sym c.as_slice-part-items.ensures) c.entry.invariant) in
+    subst (λ parts. IsStep parts c.args.store.now.elements c.args.time c.args.nonce c.revert.new.given.items
+    c.revert.new.made.items) (sym next.0)
     (c.in_ok-revert.ensures.ok (take i items) c.args.store.now.elements c.loop-part.invariant next.1 stored)

@@ -4,4 +4,5 @@ use Rattle.history.specs.Steps.{IsStep}
 use Rattle.history.proofs.step.planned.Given as goal
 
 abbrev pub invariant-loop-part : goal.invariant-loop-part
-invariant-loop-part l = IsStep (take l.part-index l.part-items) l.store.elements l.time l.nonce l.given.items l.made.items
+invariant-loop-part l =
+    IsStep (take l.part-index l.part-items) l.store.elements l.time l.nonce l.given.items l.made.items

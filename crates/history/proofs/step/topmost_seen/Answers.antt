@@ -8,7 +8,8 @@ use Rattle.history.proofs.step.topmost_seen.Goals as goal
 pub is_seen-requires : goal.is_seen-requires
 is_seen-requires c =
     let xs = c.args.stack.now.items in
-    let within : c.loop-count.count - 1 < length xs = omega (arith, c.loop-count.invariant.within, c.loop-count-test.true) in
+    let within : c.loop-count.count - 1 < length xs =
+    omega (arith, c.loop-count.invariant.within, c.loop-count-test.true) in
     c.requires c.index-entry.result.now (c.loop-count.count - 1, within, sym c.index-entry.ensures)
 
 pub returns-then-seen-clause-some : goal.returns-then-seen-clause-some
@@ -33,7 +34,8 @@ loop-count-preserved c =
     record {
       within = omega (arith, within);
       unseen =
-          unseen-below c.args.store.now.elements xs last c.loop-count.count c.index-entry.result.now more within c.index-entry.ensures
+          unseen-below c.args.store.now.elements xs last c.loop-count.count c.index-entry.result.now more within
+          c.index-entry.ensures
           (c.in_ok-seen.ensures.unseen c.if-seen.false) c.loop-count.invariant.unseen;
     }
 

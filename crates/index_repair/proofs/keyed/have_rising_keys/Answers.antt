@@ -8,22 +8,32 @@ loop-e-init c = risen-none c.args.elements.now.items
 
 pub returns-in_default-clause-not_rising : goal.returns-in_default-clause-not_rising
 returns-in_default-clause-not_rising c _ = (rw (← c.deref-e-items.ensures.value)
-    (risen-not c.deref-e-items.result.now _ c.loop-e.e-index c.e-item.result c.loop-e-test.true c.e-item.is (rw (← c.deref-e-items.ensures.value) at c.loop-e.invariant) _ (ap (λ (e : ElementValue). e.index) (sym c.e.view_is) ∙ c.in-Some.is) (sym c.is_above.ensures.above ∙ c.if-is_above.false)))
+    (risen-not c.deref-e-items.result.now _ c.loop-e.e-index c.e-item.result c.loop-e-test.true c.e-item.is
+    (rw (← c.deref-e-items.ensures.value) at c.loop-e.invariant) _
+    (ap (λ (e : ElementValue). e.index) (sym c.e.view_is) ∙ c.in-Some.is) (sym c.is_above.ensures.above
+    ∙ c.if-is_above.false)))
 
 pub returns-in_default-2-clause-not_rising : goal.returns-in_default-2-clause-not_rising
 returns-in_default-2-clause-not_rising c _ = (rw (← c.deref-e-items.ensures.value)
-    (risen-absent c.deref-e-items.result.now _ c.loop-e.e-index c.e-item.result c.loop-e-test.true c.e-item.is (rw (← c.deref-e-items.ensures.value) at c.loop-e.invariant) (ap (λ (e : ElementValue). e.index) (sym c.e.view_is) ∙ c.in_default.is)))
+    (risen-absent c.deref-e-items.result.now _ c.loop-e.e-index c.e-item.result c.loop-e-test.true c.e-item.is
+    (rw (← c.deref-e-items.ensures.value) at c.loop-e.invariant)
+    (ap (λ (e : ElementValue). e.index) (sym c.e.view_is) ∙ c.in_default.is)))
 
 pub loop-e-preserved : goal.loop-e-preserved
 loop-e-preserved c = (rw (← c.deref-e-items.ensures.value)
-    (risen-more c.deref-e-items.result.now _ c.loop-e.e-index c.e-item.result c.loop-e-test.true c.e-item.is (rw (← c.deref-e-items.ensures.value) at c.loop-e.invariant) _ (ap (λ (e : ElementValue). e.index) (sym c.e.view_is) ∙ c.in-Some.is) (sym c.is_above.ensures.above ∙ c.if-is_above.true) c.is_above.ensures.key))
+    (risen-more c.deref-e-items.result.now _ c.loop-e.e-index c.e-item.result c.loop-e-test.true c.e-item.is
+    (rw (← c.deref-e-items.ensures.value) at c.loop-e.invariant) _
+    (ap (λ (e : ElementValue). e.index) (sym c.e.view_is) ∙ c.in-Some.is) (sym c.is_above.ensures.above
+    ∙ c.if-is_above.true) c.is_above.ensures.key))
 
 pub returns-clause-rising : goal.returns-clause-rising
 returns-clause-rising c _ =
     rw (← c.deref-e-items.ensures.value)
-    (risen-all c.deref-e-items.result.now _ c.loop-e.e-index (omega (arith, c.loop-e-test.false)) (rw (← c.deref-e-items.ensures.value) at c.loop-e.invariant))
+    (risen-all c.deref-e-items.result.now _ c.loop-e.e-index (omega (arith, c.loop-e-test.false))
+    (rw (← c.deref-e-items.ensures.value) at c.loop-e.invariant))
 
 pub returns-clause-keys : goal.returns-clause-keys
 returns-clause-keys c _ =
     rw (← c.deref-e-items.ensures.value)
-    (risen-keys c.deref-e-items.result.now _ c.loop-e.e-index (omega (arith, c.loop-e-test.false)) (rw (← c.deref-e-items.ensures.value) at c.loop-e.invariant))
+    (risen-keys c.deref-e-items.result.now _ c.loop-e.e-index (omega (arith, c.loop-e-test.false))
+    (rw (← c.deref-e-items.ensures.value) at c.loop-e.invariant))

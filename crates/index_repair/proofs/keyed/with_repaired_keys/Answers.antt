@@ -8,23 +8,27 @@ use Rattle.index_repair.specs.Keyed.{index_of, keyed, with_index}
 use Rattle.index_repair.proofs.KeyedLaws.{keyed-rising}
 use Rattle.index_repair.proofs.keyed.with_repaired_keys.Goals as goal
 
-keyed-zip : (es : List ElementValue) (keys : List (List ℕ)) → map (λ (p : ElementValue × List ℕ). with_index p.0 p.1) (zip es keys) ≡ keyed es keys
+keyed-zip : (es : List ElementValue) (keys : List (List ℕ))
+    → map (λ (p : ElementValue × List ℕ). with_index p.0 p.1) (zip es keys) ≡ keyed es keys
 keyed-zip [] [] = refl
 keyed-zip [] (key ∷ keys) = refl
 keyed-zip (e ∷ es) [] = refl
 keyed-zip (e ∷ es) (key ∷ keys) = ap (λ fs. with_index e key ∷ fs) (keyed-zip es keys)
 
 pub change_each-requires-clause-one_each : goal.change_each-requires-clause-one_each
-change_each-requires-clause-one_each c = ap length c.into_vec.ensures ∙ c.in_ok-keys.ensures.count ∙ ap length c.in_ok-indices_of.ensures ∙ length-map c.args.elements.items index_of
+change_each-requires-clause-one_each c = ap length c.into_vec.ensures ∙ c.in_ok-keys.ensures.count
+    ∙ ap length c.in_ok-indices_of.ensures ∙ length-map c.args.elements.items index_of
 
 pub returns-then-have_rising_keys-clause-exact : goal.returns-then-have_rising_keys-clause-exact
-returns-then-have_rising_keys-clause-exact c = sym (keyed-rising c.args.elements.items (c.have_rising_keys.ensures.rising c.if-have_rising_keys.true))
+returns-then-have_rising_keys-clause-exact c =
+    sym (keyed-rising c.args.elements.items (c.have_rising_keys.ensures.rising c.if-have_rising_keys.true))
 
 pub returns-clause-exact : goal.returns-clause-exact
 returns-clause-exact c =
     let es = c.args.elements.items in
     let keys = c.into_vec.ensures ∙ (c.in_ok-keys.ensures.exact ∙ ap repaired c.in_ok-indices_of.ensures) in
-    c.change_each.ensures with_index (λ e key new changed. changed) ∙ (keyed-zip es c.into_vec.result.items ∙ ap (keyed es) keys)
+    c.change_each.ensures with_index (λ e key new changed. changed)
+    ∙ (keyed-zip es c.into_vec.result.items ∙ ap (keyed es) keys)
 
 pub returns-clause-old_keys : goal.returns-clause-old_keys
 returns-clause-old_keys c =

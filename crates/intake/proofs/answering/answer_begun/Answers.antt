@@ -10,7 +10,9 @@ returns-then-line-clause-answered g c =
     let lost = c.args.lost.now in
     let before = g.A.Answerer.stands c.args.answerer.now in
     ok-then c.write_line.result
-    (λ taken bytes begun. one-answered answers lost before before (g.K.Sink.seen c.args.sink.now) (g.K.Sink.seen c.write_line.new.sink) bytes lost (lead-lost answers lost before before bytes (λ state stands. stands)) taken)
+    (λ taken bytes begun. one-answered answers lost before before (g.K.Sink.seen c.args.sink.now)
+    (g.K.Sink.seen c.write_line.new.sink) bytes lost
+    (lead-lost answers lost before before bytes (λ state stands. stands)) taken)
     c.write_line.ensures.ok
 
 pub returns-then-line-clause-part : goal.returns-then-line-clause-part
@@ -19,7 +21,9 @@ returns-then-line-clause-part g c =
     let lost = c.args.lost.now in
     let before = g.A.Answerer.stands c.args.answerer.now in
     err-then c.write_line.result
-    (λ part bytes begun. one-in-part answers lost before before (g.K.Sink.seen c.args.sink.now) (g.K.Sink.seen c.write_line.new.sink) bytes lost (lead-lost answers lost before before bytes (λ state stands. stands)) part)
+    (λ part bytes begun. one-in-part answers lost before before (g.K.Sink.seen c.args.sink.now)
+    (g.K.Sink.seen c.write_line.new.sink) bytes lost
+    (lead-lost answers lost before before bytes (λ state stands. stands)) part)
     c.write_line.ensures.part
 
 pub returns-in-Ok-clause-answered : goal.returns-in-Ok-clause-answered
@@ -33,7 +37,8 @@ returns-in-Ok-clause-answered g c =
     ok-then c.write_line-in-Ok.result
     (λ taken bytes begun.
     let line : c.deref.result.now ≡ bytes = c.deref.ensures.value ∙ begun c.if-line.false in
-    one-answered answers lost before after old new bytes c.in-Ok.text (lead-answer answers lost before after c.deref.result.now bytes c.in-Ok.text line c.in-Ok.ensures.answered)
+    one-answered answers lost before after old new bytes c.in-Ok.text
+    (lead-answer answers lost before after c.deref.result.now bytes c.in-Ok.text line c.in-Ok.ensures.answered)
     (subst (λ text. Took old new (output_line text)) c.as_slice.ensures taken))
     c.write_line-in-Ok.ensures.ok
 
@@ -48,7 +53,8 @@ returns-in-Ok-clause-part g c =
     err-then c.write_line-in-Ok.result
     (λ part bytes begun.
     let line : c.deref.result.now ≡ bytes = c.deref.ensures.value ∙ begun c.if-line.false in
-    one-in-part answers lost before after old new bytes c.in-Ok.text (lead-answer answers lost before after c.deref.result.now bytes c.in-Ok.text line c.in-Ok.ensures.answered)
+    one-in-part answers lost before after old new bytes c.in-Ok.text
+    (lead-answer answers lost before after c.deref.result.now bytes c.in-Ok.text line c.in-Ok.ensures.answered)
     (subst (λ text. TookPart old new (output_line text)) c.as_slice.ensures part))
     c.write_line-in-Ok.ensures.part
 
@@ -59,7 +65,9 @@ returns-in-Err-clause-answered g c =
     let before = g.A.Answerer.stands c.args.answerer.now in
     let after = g.A.Answerer.stands c.answer.new.self in
     ok-then c.write_line-in-Err.result
-    (λ taken bytes begun. one-answered answers lost before after (g.K.Sink.seen c.args.sink.now) (g.K.Sink.seen c.write_line-in-Err.new.sink) bytes lost (lead-lost answers lost before after bytes c.in-Err.ensures.kept) taken)
+    (λ taken bytes begun. one-answered answers lost before after (g.K.Sink.seen c.args.sink.now)
+    (g.K.Sink.seen c.write_line-in-Err.new.sink) bytes lost
+    (lead-lost answers lost before after bytes c.in-Err.ensures.kept) taken)
     c.write_line-in-Err.ensures.ok
 
 pub returns-in-Err-clause-part : goal.returns-in-Err-clause-part
@@ -69,5 +77,7 @@ returns-in-Err-clause-part g c =
     let before = g.A.Answerer.stands c.args.answerer.now in
     let after = g.A.Answerer.stands c.answer.new.self in
     err-then c.write_line-in-Err.result
-    (λ part bytes begun. one-in-part answers lost before after (g.K.Sink.seen c.args.sink.now) (g.K.Sink.seen c.write_line-in-Err.new.sink) bytes lost (lead-lost answers lost before after bytes c.in-Err.ensures.kept) part)
+    (λ part bytes begun. one-in-part answers lost before after (g.K.Sink.seen c.args.sink.now)
+    (g.K.Sink.seen c.write_line-in-Err.new.sink) bytes lost
+    (lead-lost answers lost before after bytes c.in-Err.ensures.kept) part)
     c.write_line-in-Err.ensures.part

@@ -15,7 +15,9 @@ pieces-init g c = record {
     [],
     Gave-none (g.S.Source.seen c.args.source.now).left,
     λ held. c.new-begun.ensures.none,
-    none-answered g.A.Answerer.answers c.args.lost.now (g.A.Answerer.stands c.args.answerer.now) (g.A.Answerer.stands c.args.answerer.now) (g.K.Sink.seen c.args.sink.now) (g.K.Sink.seen c.args.sink.now) (λ state stands. stands) refl,
+    none-answered g.A.Answerer.answers c.args.lost.now (g.A.Answerer.stands c.args.answerer.now)
+        (g.A.Answerer.stands c.args.answerer.now) (g.K.Sink.seen c.args.sink.now) (g.K.Sink.seen c.args.sink.now)
+        (λ state stands. stands) refl,
   );
   source_counted = omega arith;
   sink_counted = omega arith;
@@ -38,9 +40,11 @@ pieces-preserved g c =
       talked = (
         some.0 ++ more,
         Gave-more _ _ _ some.0 more some.1 c.in-Ok.ensures.given,
-        subst (IsBegun c.next_piece.new.begun) (sym (begun-append [] some.0 more)) (c.in-Ok.ensures.begun (begun_of some.0) some.2),
+        subst (IsBegun c.next_piece.new.begun) (sym (begun-append [] some.0 more))
+            (c.in-Ok.ensures.begun (begun_of some.0) some.2),
         subst (WereAnswered answers lost before after old new) (sym (lines-append [] some.0 more))
-            (answered-more answers lost before middle after old between new (lines_of some.0) (lines_behind (begun_of some.0) more) some.3 (c.in-Ok.ensures.answered (begun_of some.0) some.2)),
+            (answered-more answers lost before middle after old between new (lines_of some.0)
+            (lines_behind (begun_of some.0) more) some.3 (c.in-Ok.ensures.answered (begun_of some.0) some.2)),
       );
       source_counted = omega (arith, c.in-Ok.ensures.source_counted, c.pieces.invariant.source_counted);
       sink_counted = omega (arith, c.in-Ok.ensures.sink_counted, c.pieces.invariant.sink_counted);
@@ -62,7 +66,8 @@ returns-in-Ok-eq0-clause-answered g c _ =
       some.0 ++ more,
       Gave-more _ _ _ some.0 more some.1 c.in-Ok-eq0.ensures.given,
       subst (WereAnswered answers lost before after old new) (sym (lines-append [] some.0 more))
-          (answered-more answers lost before middle after old between new (lines_of some.0) (lines_behind (begun_of some.0) more) some.3 (c.in-Ok-eq0.ensures.answered (begun_of some.0) some.2)),
+          (answered-more answers lost before middle after old between new (lines_of some.0)
+          (lines_behind (begun_of some.0) more) some.3 (c.in-Ok-eq0.ensures.answered (begun_of some.0) some.2)),
     )
 
 pub returns-in-Err-clause-part : goal.returns-in-Err-clause-part
@@ -81,5 +86,6 @@ returns-in-Err-clause-part g c is =
       some.0 ++ part.0,
       Gave-more _ _ _ some.0 part.0 some.1 part.1,
       subst (WereAnsweredInPart answers lost before after old new) (sym (lines-append [] some.0 part.0))
-          (part-behind answers lost before middle after old between new (lines_of some.0) (lines_behind (begun_of some.0) part.0) some.3 part.2),
+          (part-behind answers lost before middle after old between new (lines_of some.0)
+          (lines_behind (begun_of some.0) part.0) some.3 part.2),
     )

@@ -10,7 +10,8 @@ invariant-stretches g l = record {
   within : l.at ≤ length l.piece;
   begun : (bytes : Items ℕ) → IsBegun l.fn.begun bytes → IsBegun l.begun (begun_behind bytes (take l.at l.piece));
   answered : (bytes : Items ℕ) → IsBegun l.fn.begun bytes
-      → WereAnswered g.A.Answerer.answers l.lost (g.A.Answerer.stands l.fn.answerer) (g.A.Answerer.stands l.answerer) (g.K.Sink.seen l.fn.sink) (g.K.Sink.seen l.sink) (lines_behind bytes (take l.at l.piece));
+      → WereAnswered g.A.Answerer.answers l.lost (g.A.Answerer.stands l.fn.answerer) (g.A.Answerer.stands l.answerer)
+      (g.K.Sink.seen l.fn.sink) (g.K.Sink.seen l.sink) (lines_behind bytes (take l.at l.piece));
   counted : (g.K.Sink.seen l.fn.sink).faults ≤ (g.K.Sink.seen l.sink).faults;
 }
 

@@ -10,20 +10,40 @@ returns-in_err-count-clause-stopped g c =
     let taken = c.pieces.invariant.taken in
     let some = Gave-part _ _ _ _ _ _ taken.given c.in_err-count.ensures.stopped in
     let p = err_from_is_err_and c.from_residual-in_err-count.result c.from_residual-in_err-count.ensures.1 in
-    rw p.1 (some.0, omega (arith, some.1, taken.width, length-take {A = ℕ}, c.min-wanted.ensures, c.pieces.piece.ok.0), some.2)
+    rw p.1 (
+      some.0,
+      omega (arith, some.1, taken.width, length-take {A = ℕ}, c.min-wanted.ensures, c.pieces.piece.ok.0),
+      some.2,
+    )
 
 -- the bytes that were taken, with the piece that came
 pub returns-then-count-eq0-clause-read : goal.returns-then-count-eq0-clause-read
 returns-then-count-eq0-clause-read g c =
     let source = g.S.Source.seen in
-    let all : HasTaken (source c.args.source.now) (source c.next_piece.new.source) (c.pieces.used + c.in_ok-count.count) c.next_piece.new.feed (g.R.Reader.seen c.next_piece.new.reader) c.next_piece.new.stop =
-    taken-more _ (source c.pieces.source) _ c.pieces.used c.in_ok-count.count _ c.in_ok-count.ensures.given _ _ _ _ _ _ c.in_ok-count.ensures.bound c.in_ok-count.ensures.taken c.pieces.invariant.taken in
-    (all.stream, omega (arith, all.width, c.if-count-eq0.true, c.pieces-test.true), all.given, c.in_ok-finish.ensures all.stream all.stands)
+    let all : HasTaken (source c.args.source.now) (source c.next_piece.new.source) (c.pieces.used + c.in_ok-count.count)
+    c.next_piece.new.feed (g.R.Reader.seen c.next_piece.new.reader) c.next_piece.new.stop =
+    taken-more _ (source c.pieces.source) _ c.pieces.used c.in_ok-count.count _ c.in_ok-count.ensures.given _ _ _ _ _ _
+    c.in_ok-count.ensures.bound c.in_ok-count.ensures.taken c.pieces.invariant.taken in (
+      all.stream,
+      omega (arith, all.width, c.if-count-eq0.true, c.pieces-test.true),
+      all.given,
+      c.in_ok-finish.ensures all.stream all.stands,
+    )
 
 pub pieces-preserved : goal.pieces-preserved
 pieces-preserved g c = record {
-  within = omega (arith, c.in_ok-count.ensures.bound, length-take {A = ℕ}, c.min-wanted.ensures, c.pieces.piece.ok.0, c.deref_mut.ensures.len, c.pieces-test.true);
-  taken = taken-more _ (g.S.Source.seen c.pieces.source) _ c.pieces.used c.in_ok-count.count _ c.in_ok-count.ensures.given _ _ _ _ _ _ c.in_ok-count.ensures.bound c.in_ok-count.ensures.taken c.pieces.invariant.taken;
+  within = omega (
+    arith,
+    c.in_ok-count.ensures.bound,
+    length-take {A = ℕ},
+    c.min-wanted.ensures,
+    c.pieces.piece.ok.0,
+    c.deref_mut.ensures.len,
+    c.pieces-test.true,
+  );
+  taken = taken-more _ (g.S.Source.seen c.pieces.source) _ c.pieces.used c.in_ok-count.count _
+      c.in_ok-count.ensures.given _ _ _ _ _ _ c.in_ok-count.ensures.bound c.in_ok-count.ensures.taken
+      c.pieces.invariant.taken;
   counted = omega (arith, c.in_ok-count.ensures.counted, c.pieces.invariant.counted);
   piece = c.pieces.invariant.piece;
 }

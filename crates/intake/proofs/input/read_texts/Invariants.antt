@@ -6,7 +6,8 @@ use Rattle.intake.proofs.input.read_texts.Given as goal
 abbrev pub invariant-pieces : goal.invariant-pieces
 invariant-pieces g l = record {
   within : l.used ≤ l.limit + 1;
-  taken : HasTaken (g.S.Source.seen l.fn.source) (g.S.Source.seen l.source) l.used l.feed (g.R.Reader.seen l.reader) l.stop;
+  taken : HasTaken (g.S.Source.seen l.fn.source) (g.S.Source.seen l.source) l.used l.feed (g.R.Reader.seen l.reader)
+      l.stop;
   counted : (g.S.Source.seen l.fn.source).faults ≤ (g.S.Source.seen l.source).faults;
   piece : vec_len l.piece ≡ 65536;
 }

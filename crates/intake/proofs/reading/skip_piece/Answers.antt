@@ -12,10 +12,12 @@ use Rattle.intake.proofs.reading.skip_piece.Goals as goal
 pub returns-then-at-piece-clause-stopped : goal.returns-then-at-piece-clause-stopped
 returns-then-at-piece-clause-stopped g c why is stream reader full l more =
     let first = prefix_len is_space c.args.piece.now in
-    let place : c.args.feed.now.used + first ≡ c.used.result + c.skip_space-at.result = omega (arith, c.used.ensures, c.skip_space-at.ensures) in
+    let place : c.args.feed.now.used + first ≡ c.used.result + c.skip_space-at.result =
+    omega (arith, c.used.ensures, c.skip_space-at.ensures) in
     let same : stopped.Extra (c.used.result + c.skip_space-at.result) ≡ why = cc in
     subst (IsStopped (stream ++ more) (g.R.Reader.seen reader)) (ap stopped.Extra place ∙ same)
-    (extra_there stream c.args.piece.now c.args.feed.now (g.R.Reader.seen reader) l full (omega (arith, c.skip_space-at.ensures, c.if-at-piece.true)) more)
+    (extra_there stream c.args.piece.now c.args.feed.now (g.R.Reader.seen reader) l full
+    (omega (arith, c.skip_space-at.ensures, c.if-at-piece.true)) more)
 
 pub returns-in-Err-Fault-clause-stopped : goal.returns-in-Err-Fault-clause-stopped
 returns-in-Err-Fault-clause-stopped g c why is stream reader full l more =
@@ -28,8 +30,10 @@ returns-clause-led g c used is stream reader full l =
     let space = blank-all c.args.piece.now (omega (arith, c.skip_space-at.ensures, c.if-at-piece.false)) in
     let same : c.in-Ok.fed.used ≡ used = cc in
     subst (λ (n : ℕ). IsLed stream (drop n c.args.piece.now) c.feed.new.self (g.R.Reader.seen reader)) same
-    (skipped_on stream c.args.piece.now c.args.feed.now (g.R.Reader.seen reader) full space l (drop c.in-Ok.fed.used c.args.piece.now) c.feed.new.self c.in-Ok.fed.value
+    (skipped_on stream c.args.piece.now c.args.feed.now (g.R.Reader.seen reader) full space l
+    (drop c.in-Ok.fed.used c.args.piece.now) c.feed.new.self c.in-Ok.fed.value
     (λ none. subst (λ (left : List ℕ). IsAt stream l.start left c.feed.new.self)
-    (sym (drop_all c.in-Ok.fed.used c.args.piece.now (omega (arith, c.in-Ok.ensures.all_used none)))) (c.in-Ok.ensures.going none stream l.start l.at))
+    (sym (drop_all c.in-Ok.fed.used c.args.piece.now (omega (arith, c.in-Ok.ensures.all_used none))))
+    (c.in-Ok.ensures.going none stream l.start l.at))
     c.in-Ok.ensures.kept
     (λ text some. c.in-Ok.ensures.value text some stream l.start l.at))

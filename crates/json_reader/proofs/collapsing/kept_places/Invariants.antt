@@ -5,4 +5,5 @@ use Rattle.json_reader.proofs.Placing.{AreKept}
 use Rattle.json_reader.proofs.collapsing.kept_places.Given as goal
 
 abbrev pub invariant-loop-place : goal.invariant-loop-place
-invariant-loop-place l = AreKept l.bytes l.places l.kept.items l.place-index (λ q. get_by (λ k. slice_cmp nat_cmp q k.now) l.known) l.repeats
+invariant-loop-place l =
+    AreKept l.bytes l.places l.kept.items l.place-index (λ q. get_by (λ k. slice_cmp nat_cmp q k.now) l.known) l.repeats

@@ -6,14 +6,19 @@ pub overflow_sub-result : goal.overflow_sub-result
 overflow_sub-result c =
     let came = rw c.in-Ok-Ended.field-0-is at c.in-Ok-Ended.ensures.came in
     let is = c.as_slice-bytes.ensures.value ∙ c.in_ok-extend_from_slice.ensures.items in
-    omega (arith, late_ended c.args.rest.now.items c.args.piece.now c.as_slice-bytes.result.now is c.requires.kept c.in-Ok-Ended.value c.in-Ok-Ended.end came)
+    omega (
+      arith,
+      late_ended c.args.rest.now.items c.args.piece.now c.as_slice-bytes.result.now is c.requires.kept
+          c.in-Ok-Ended.value c.in-Ok-Ended.end came,
+    )
 
 pub returns-in-Ok-Through-clause-fed : goal.returns-in-Ok-Through-clause-fed
 returns-in-Ok-Through-clause-fed c =
     let came = rw c.in-Ok-Through.field-0-is at c.in-Ok-Through.ensures.came in
     let begun = behind_on c.args.rest.now.items c.args.piece.now c.requires.kept.begun c.requires.some in
     let value = c.as_slice-bytes.ensures.value in
-    through_fed c.args.rest.now.items c.args.piece.now _ (value ∙ c.in_ok-extend_from_slice.ensures.items ∙ sym begun) c.in-Ok-Through.read came _ (sym value)
+    through_fed c.args.rest.now.items c.args.piece.now _ (value ∙ c.in_ok-extend_from_slice.ensures.items
+    ∙ sym begun) c.in-Ok-Through.read came _ (sym value)
 
 pub returns-in-Ok-Ended-clause-fed : goal.returns-in-Ok-Ended-clause-fed
 returns-in-Ok-Ended-clause-fed c =
@@ -24,5 +29,6 @@ returns-in-Ok-Ended-clause-fed c =
     let came = rw c.in-Ok-Ended.field-0-is at c.in-Ok-Ended.ensures.came in
     let is = c.as_slice-bytes.ensures.value ∙ c.in_ok-extend_from_slice.ensures.items in
     let up = late_ended rest piece bytes is c.requires.kept c.in-Ok-Ended.value end came in
-    ended_fed rest piece bytes (is ∙ sym (behind_on rest piece c.requires.kept.begun c.requires.some)) c.in-Ok-Ended.value end (end - c.len-before.result) _ c.clear.ensures.items came
+    ended_fed rest piece bytes (is ∙ sym (behind_on rest piece c.requires.kept.begun c.requires.some))
+    c.in-Ok-Ended.value end (end - c.len-before.result) _ c.clear.ensures.items came
     (omega (arith, up, ap length is, length-append rest piece))

@@ -7,5 +7,6 @@ returns c =
     let put = c.in_ok-put_all.ensures in (
       stay.within.0,
       stay.within.1,
-      λ at read. has_passed c.args.bytes.now at c.args.at c.args.machine.now c.args.writer.now read c.stay_end-end.result c.put_all.new.self stay.within.0 stay.within.1 stay.stays put.ready put.fits,
+      λ at read. has_passed c.args.bytes.now at c.args.at c.args.machine.now c.args.writer.now read
+          c.stay_end-end.result c.put_all.new.self stay.within.0 stay.within.1 stay.stays put.ready put.fits,
     )

@@ -8,7 +8,8 @@ returns-in_err-finish-in-Through-clause-fault c fault is =
     let bytes = c.args.bytes.now in
     let came = rw c.in-Through.is at (c.in_ok-reader.ensures c.args.at (c.new.ensures bytes c.requires)) in
     let same = rw is at c.from_residual-in_err-finish-in-Through.ensures.1 in
-    broken_first bytes c.args.at c.requires _ fault (c.in_err-finish-in-Through.ensures.fault fault (ap Err (sym same)) c.args.at came.0)
+    broken_first bytes c.args.at c.requires _ fault (c.in_err-finish-in-Through.ensures.fault fault (ap Err (sym same))
+    c.args.at came.0)
 
 pub returns-in_ok-finish-in-Through-clause-only : goal.returns-in_ok-finish-in-Through-clause-only
 returns-in_ok-finish-in-Through-clause-only c text rest stands =
@@ -27,5 +28,6 @@ returns-in-Refused-clause-fault c fault is =
     let bytes = c.args.bytes.now in
     let came = rw c.in-Refused.is at (c.in_ok-reader.ensures c.args.at (c.new.ensures bytes c.requires)) in
     let same : c.fault.result ≡ fault = cc in
-    let r = refused_in bytes c.args.at c.in-Refused.machine c.in-Refused.next came c.in-Refused.next (length bytes) (omega arith) fault (sym same ∙ c.fault.ensures) in
+    let r = refused_in bytes c.args.at c.in-Refused.machine c.in-Refused.next came c.in-Refused.next (length bytes)
+    (omega arith) fault (sym same ∙ c.fault.ensures) in
     broken_first bytes c.args.at c.requires (r.byte ∷ r.more) fault r.broken

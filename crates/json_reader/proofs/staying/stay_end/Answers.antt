@@ -8,7 +8,8 @@ pub returns-in-Quoted-Quoted-default-Plain : goal.returns-in-Quoted-Quoted-defau
 returns-in-Quoted-Quoted-default-Plain c = record {
   within = c.bare_end.ensures.within;
   stays = passed_all is_bare _ (λ b is. grind (arith, nat_tests)) _ _ _ c.bare_end.ensures.value;
-  alike = rw c.in-Quoted-Quoted-default-Plain.is-0 (passed_all is_bare (λ b. is_plain b ≡ true) (λ b is. grind (arith, nat_tests)) _ _ _ c.bare_end.ensures.value);
+  alike = rw c.in-Quoted-Quoted-default-Plain.is-0
+      (passed_all is_bare (λ b. is_plain b ≡ true) (λ b is. grind (arith, nat_tests)) _ _ _ c.bare_end.ensures.value);
 }
 
 pub returns-in-Between-Number-Whole : goal.returns-in-Between-Number-Whole
@@ -29,5 +30,6 @@ pub returns-in-Between-Fresh : goal.returns-in-Between-Fresh
 returns-in-Between-Fresh c = record {
   within = passed_within is_space _ _ _ c.requires c.skip_space-in-Between-Fresh.ensures;
   stays = passed_all is_space _ (λ b is. grind (arith, nat_tests)) _ _ _ c.skip_space-in-Between-Fresh.ensures;
-  alike = rw c.in-Between-Fresh.is-0 (inl (passed_all is_space _ (λ b is. is) _ _ _ c.skip_space-in-Between-Fresh.ensures));
+  alike =
+      rw c.in-Between-Fresh.is-0 (inl (passed_all is_space _ (λ b is. is) _ _ _ c.skip_space-in-Between-Fresh.ensures));
 }

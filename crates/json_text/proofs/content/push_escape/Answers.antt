@@ -18,10 +18,12 @@ second_unit-requires c =
 pub returns-in-Some-clause-ok : goal.returns-in-Some-clause-ok
 returns-in-Some-clause-ok c =
     let found = c.in-Some.ensures.found in
-    pair-takes c.args.rest.now c.unit_of-first.result _ _ c.requires.escape c.if-kind-ne117.false c.unit_of-first.ensures.value
+    pair-takes c.args.rest.now c.unit_of-first.result _ _ c.requires.escape c.if-kind-ne117.false
+    c.unit_of-first.ensures.value
     c.in-Some.second found.0 found.1 found.2 c.in_ok-push_character.ensures
 
 pub returns-clause-ok : goal.returns-clause-ok
 returns-clause-ok c =
-    unit-takes c.args.rest.now c.unit_of-first.result _ _ c.requires.escape c.if-kind-ne117.false c.unit_of-first.ensures.value
+    unit-takes c.args.rest.now c.unit_of-first.result _ _ c.requires.escape c.if-kind-ne117.false
+    c.unit_of-first.ensures.value
     c.in_default-second_unit.ensures.none c.in_ok-push_character-2.ensures

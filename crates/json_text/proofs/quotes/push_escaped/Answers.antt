@@ -11,5 +11,6 @@ loop-plain-preserved c = record {
       rw (c.in_ok-push_quoted_byte.ensures.ok, c.in_ok-extend_from_slice.ensures.items, take_rest)
       (simp append_assoc (ap (λ s. c.loop-plain.out.items ++ s) (sym all) ∙ c.loop-plain.invariant.made));
   kept = extends_then _ _ _ c.loop-plain.invariant.kept
-      (extends_then _ _ _ (extends_by _ _ _ c.in_ok-extend_from_slice.ensures.items) (extends_by _ _ _ c.in_ok-push_quoted_byte.ensures.ok));
+      (extends_then _ _ _ (extends_by _ _ _ c.in_ok-extend_from_slice.ensures.items)
+      (extends_by _ _ _ c.in_ok-push_quoted_byte.ensures.ok));
 }

@@ -19,5 +19,6 @@ returns-then-is_missing c = elim c.then-is_missing.branch [
 pub returns : goal.returns
 unfolding quote
 returns c =
-    no-status _ (λ e. both_ways _ refl (c.if-has_value.ensures.1 e)) (λ null. both_ways _ refl (c.if-is_missing.ensures.1 null))
+    no-status _ (λ e. both_ways _ refl (c.if-has_value.ensures.1 e))
+    (λ null. both_ways _ refl (c.if-is_missing.ensures.1 null))
     (λ e. both_ways _ refl (c.if-has_value-2.ensures.1 e))

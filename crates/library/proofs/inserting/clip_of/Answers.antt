@@ -14,9 +14,12 @@ loop-place-preserved c =
     elim c.if-is_live.branch [
       | then-is_live+in_ok-try_clone+in_ok-push+in_ok-push-2 w ↦
           let kept : not e.deleted ≡ true = sym c.is_live.ensures ∙ w.if-is_live.true in
-          let parts = live-kept es i e c.loop-place-test.true c.index-elements-place.is c.loop-place.live.items c.loop-place.places.items kept so_far.live so_far.places in
+          let parts = live-kept es i e c.loop-place-test.true c.index-elements-place.is c.loop-place.live.items
+          c.loop-place.places.items kept so_far.live so_far.places in
           record {
-            live = ap (λ v. v.items) w.live-is ∙ (w.in_ok-push.ensures.items ∙ ap (λ x. c.loop-place.live.items ++ x ∷ []) w.in_ok-try_clone.ensures ∙ parts.0);
+            live = ap (λ v. v.items) w.live-is
+                ∙ (w.in_ok-push.ensures.items ∙ ap (λ x. c.loop-place.live.items ++ x ∷ []) w.in_ok-try_clone.ensures
+                ∙ parts.0);
             places = ap (λ v. v.items) w.places-is ∙ (w.in_ok-push-2.ensures.items ∙ parts.1);
           }
       | else-is_live w ↦
@@ -32,7 +35,9 @@ pub returns : goal.returns
 returns c =
     let es = c.args.elements.now in
     let all : take c.loop-place.place es ≡ es = take_all c.loop-place.place es c.loop-place-test.false in
-    let elements : c.from_vec.result ≡ elements_in (live_of es) = c.from_vec.ensures ∙ (c.loop-place.invariant.live ∙ ap (λ xs. elements_in (live_of xs)) all) in
-    let places : c.from_vec-2.result ≡ places_in (live_of es) = c.from_vec-2.ensures ∙ (c.loop-place.invariant.places ∙ ap (λ xs. places_in (live_of xs)) all) in
+    let elements : c.from_vec.result ≡ elements_in (live_of es) =
+    c.from_vec.ensures ∙ (c.loop-place.invariant.live ∙ ap (λ xs. elements_in (live_of xs)) all) in
+    let places : c.from_vec-2.result ≡ places_in (live_of es) =
+    c.from_vec-2.ensures ∙ (c.loop-place.invariant.places ∙ ap (λ xs. places_in (live_of xs)) all) in
     let files = c.new.ensures in
     λ i. record { elements = elements i; places = places i; files = files i }

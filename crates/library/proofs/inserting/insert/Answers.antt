@@ -13,6 +13,7 @@ returns-clause-stored c =
     let old = c.args.store.now.elements in
     on_ok_weaker c.insert_item.result
     (λ stored item is.
-    subst (λ (x : Item). (updates : List ElementValue) → AreStored updates old → AreStored (updates ++ pasted old (clip_of x).elements c.args.prefix.now) c.insert_item.new.store.elements)
+    subst (λ (x : Item). (updates : List ElementValue) → AreStored updates old
+    → AreStored (updates ++ pasted old (clip_of x).elements c.args.prefix.now) c.insert_item.new.store.elements)
     (same_Some c.in-Some.item.now item (c.in-Some.ensures.item ∙ is)) stored)
     c.insert_item.ensures.stored

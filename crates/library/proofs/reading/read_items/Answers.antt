@@ -24,10 +24,12 @@ loop-place-preserved c =
     let v = c.value-item.result in
     let at : v ≡ get_or values i v = cc in
     let within : i < length values = omega (arith, ap length c.as_slice-value-items.ensures) in
-    read-more values i v c.loop-place.items.items c.push.new.self.items c.in_ok-item.item within at c.loop-place.invariant c.in_ok-item.ensures.read c.in_ok-push.ensures.items
+    read-more values i v c.loop-place.items.items c.push.new.self.items c.in_ok-item.item within at
+    c.loop-place.invariant c.in_ok-item.ensures.read c.in_ok-push.ensures.items
 
 pub returns-clause-read : goal.returns-clause-read
 returns-clause-read c =
     let values = c.args.values.now in
     let all = take_all c.loop-place.place values (omega (arith, ap length c.as_slice-value-items.ensures)) in
-    subst (AreItemsIn values) (sym c.from_vec.ensures) (subst (λ vs. AreItemsIn vs c.loop-place.items.items) all c.loop-place.invariant)
+    subst (AreItemsIn values) (sym c.from_vec.ensures) (subst (λ vs. AreItemsIn vs c.loop-place.items.items) all
+    c.loop-place.invariant)

@@ -16,40 +16,64 @@ unfolding quote
 returns-then-not-has_value-clause-fault c = λ fault e.
     let value = c.args.value.now in
     let members = pairs c.in-Some.found in
-    let found : c.members.result ≡ Ok c.in-Some.found = c.shaped.ensures.found c.in-Some.found (c.in_ok-found.was ∙ ap Ok c.in-Some.is) in
-    let object = is-object value members (IfOk-at_ok _ found c.members.ensures.spelled) (IfOk-at_ok _ found c.members.ensures.kept) in
-    subst (IsLibFault value) (lib_fault-same _ NotLibrary fault e) (members, object, λ kind. both_ways _ refl (c.if-not-has_value.ensures.1 kind.1))
+    let found : c.members.result ≡ Ok c.in-Some.found =
+    c.shaped.ensures.found c.in-Some.found (c.in_ok-found.was ∙ ap Ok c.in-Some.is) in
+    let object = is-object value members (IfOk-at_ok _ found c.members.ensures.spelled)
+    (IfOk-at_ok _ found c.members.ensures.kept) in
+    subst (IsLibFault value) (lib_fault-same _ NotLibrary fault e) (
+      members,
+      object,
+      λ kind. both_ways _ refl (c.if-not-has_value.ensures.1 kind.1),
+    )
 
 pub returns-in_default-2-clause-fault : goal.returns-in_default-2-clause-fault
 unfolding quote
 returns-in_default-2-clause-fault c = λ fault e.
     let value = c.args.value.now in
     let members = pairs c.in-Some.found in
-    let found : c.members.result ≡ Ok c.in-Some.found = c.shaped.ensures.found c.in-Some.found (c.in_ok-found.was ∙ ap Ok c.in-Some.is) in
-    let object = is-object value members (IfOk-at_ok _ found c.members.ensures.spelled) (IfOk-at_ok _ found c.members.ensures.kept) in
+    let found : c.members.result ≡ Ok c.in-Some.found =
+    c.shaped.ensures.found c.in-Some.found (c.in_ok-found.was ∙ ap Ok c.in-Some.is) in
+    let object = is-object value members (IfOk-at_ok _ found c.members.ensures.spelled)
+    (IfOk-at_ok _ found c.members.ensures.kept) in
     let kind = is-library members (c.if-not-has_value.ensures.0 refl) in
     let none : c.in_ok-values.field-0 ≡ None = cc in
-    subst (IsLibFault value) (lib_fault-same _ Items fault e) (members, object, kind, MatchOption-at_none _ _ none c.in_ok-values.ensures)
+    subst (IsLibFault value) (lib_fault-same _ Items fault e) (
+      members,
+      object,
+      kind,
+      MatchOption-at_none _ _ none c.in_ok-values.ensures,
+    )
 
 pub returns-clause-library : goal.returns-clause-library
 unfolding quote
 returns-clause-library c =
     let value = c.args.value.now in
     let members = pairs c.in-Some.found in
-    let found : c.members.result ≡ Ok c.in-Some.found = c.shaped.ensures.found c.in-Some.found (c.in_ok-found.was ∙ ap Ok c.in-Some.is) in
-    let object = is-object value members (IfOk-at_ok _ found c.members.ensures.spelled) (IfOk-at_ok _ found c.members.ensures.kept) in
+    let found : c.members.result ≡ Ok c.in-Some.found =
+    c.shaped.ensures.found c.in-Some.found (c.in_ok-found.was ∙ ap Ok c.in-Some.is) in
+    let object = is-object value members (IfOk-at_ok _ found c.members.ensures.spelled)
+    (IfOk-at_ok _ found c.members.ensures.kept) in
     let kind = is-library members (c.if-not-has_value.ensures.0 refl) in
     let array = MatchOption-at_some _ _ c.in-Some-2.values c.in-Some-2.is c.in_ok-values.ensures in
     IfOk-weaker c.read_items.result _ _
-    (λ items read. record { members = members; object = object; kind = kind; values = c.in-Some-2.values; array = array; read = read }) c.read_items.ensures.read
+    (λ items read. record {
+      members = members;
+      object = object;
+      kind = kind;
+      values = c.in-Some-2.values;
+      array = array;
+      read = read;
+    }) c.read_items.ensures.read
 
 pub returns-clause-fault : goal.returns-clause-fault
 unfolding quote
 returns-clause-fault c = λ fault e.
     let value = c.args.value.now in
     let members = pairs c.in-Some.found in
-    let found : c.members.result ≡ Ok c.in-Some.found = c.shaped.ensures.found c.in-Some.found (c.in_ok-found.was ∙ ap Ok c.in-Some.is) in
-    let object = is-object value members (IfOk-at_ok _ found c.members.ensures.spelled) (IfOk-at_ok _ found c.members.ensures.kept) in
+    let found : c.members.result ≡ Ok c.in-Some.found =
+    c.shaped.ensures.found c.in-Some.found (c.in_ok-found.was ∙ ap Ok c.in-Some.is) in
+    let object = is-object value members (IfOk-at_ok _ found c.members.ensures.spelled)
+    (IfOk-at_ok _ found c.members.ensures.kept) in
     let kind = is-library members (c.if-not-has_value.ensures.0 refl) in
     let array = MatchOption-at_some _ _ c.in-Some-2.values c.in-Some-2.is c.in_ok-values.ensures in
     let faulty = c.read_items.ensures.fault fault e in

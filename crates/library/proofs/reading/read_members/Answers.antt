@@ -20,49 +20,58 @@ returns-in_default-status_named-clause-fault c = λ fault e.
     let ms = pairs c.args.members.now in
     let id = MatchOption-at_some _ _ c.in-Some.id c.in-Some.is c.in_ok-id.ensures in
     let none : c.status_named.result ≡ None = cc in
-    subst (IsFirst ms) (item_fault-same _ Status fault e) (first-status ms c.in-Some.id id (MatchOption-at_none _ _ none c.status_named.ensures))
+    subst (IsFirst ms) (item_fault-same _ Status fault e)
+    (first-status ms c.in-Some.id id (MatchOption-at_none _ _ none c.status_named.ensures))
 
 pub returns-in_default-time_named-clause-fault : goal.returns-in_default-time_named-clause-fault
 returns-in_default-time_named-clause-fault c = λ fault e.
     let ms = pairs c.args.members.now in
     let id = MatchOption-at_some _ _ c.in-Some.id c.in-Some.is c.in_ok-id.ensures in
-    let status = MatchOption-at_some _ _ c.in-Some-status_named.published c.in-Some-status_named.is c.status_named.ensures in
+    let status =
+    MatchOption-at_some _ _ c.in-Some-status_named.published c.in-Some-status_named.is c.status_named.ensures in
     let none : c.time_named.result ≡ None = cc in
     subst (IsFirst ms) (item_fault-same _ Created fault e)
-    (first-created ms c.in-Some.id id c.in-Some-status_named.published status (MatchOption-at_none _ _ none c.time_named.ensures))
+    (first-created ms c.in-Some.id id c.in-Some-status_named.published status
+    (MatchOption-at_none _ _ none c.time_named.ensures))
 
 pub returns-in_default-2-clause-fault : goal.returns-in_default-2-clause-fault
 returns-in_default-2-clause-fault c = λ fault e.
     let ms = pairs c.args.members.now in
     let id = MatchOption-at_some _ _ c.in-Some.id c.in-Some.is c.in_ok-id.ensures in
-    let status = MatchOption-at_some _ _ c.in-Some-status_named.published c.in-Some-status_named.is c.status_named.ensures in
+    let status =
+    MatchOption-at_some _ _ c.in-Some-status_named.published c.in-Some-status_named.is c.status_named.ensures in
     let created = MatchOption-at_some _ _ c.in-Some-time_named.created c.in-Some-time_named.is c.time_named.ensures in
     let none : c.in_ok-name.field-0 ≡ None = cc in
     subst (IsFirst ms) (item_fault-same _ Name fault e)
-    (first-name ms c.in-Some.id id c.in-Some-status_named.published status c.in-Some-time_named.created created (MatchOption-at_none _ _ none c.in_ok-name.ensures))
+    (first-name ms c.in-Some.id id c.in-Some-status_named.published status c.in-Some-time_named.created created
+    (MatchOption-at_none _ _ none c.in_ok-name.ensures))
 
 pub returns-in_default-3-clause-fault : goal.returns-in_default-3-clause-fault
 returns-in_default-3-clause-fault c = λ fault e.
     let ms = pairs c.args.members.now in
     let id = MatchOption-at_some _ _ c.in-Some.id c.in-Some.is c.in_ok-id.ensures in
-    let status = MatchOption-at_some _ _ c.in-Some-status_named.published c.in-Some-status_named.is c.status_named.ensures in
+    let status =
+    MatchOption-at_some _ _ c.in-Some-status_named.published c.in-Some-status_named.is c.status_named.ensures in
     let created = MatchOption-at_some _ _ c.in-Some-time_named.created c.in-Some-time_named.is c.time_named.ensures in
     let name = MatchOption-at_some _ _ c.in-Some-2.name c.in-Some-2.is c.in_ok-name.ensures in
     let none : c.in_ok-values.field-0 ≡ None = cc in
     subst (IsFirst ms) (item_fault-same _ Elements fault e)
-    (first-elements ms c.in-Some.id id c.in-Some-status_named.published status c.in-Some-time_named.created created c.in-Some-2.name name (MatchOption-at_none _ _ none c.in_ok-values.ensures))
+    (first-elements ms c.in-Some.id id c.in-Some-status_named.published status c.in-Some-time_named.created created
+    c.in-Some-2.name name (MatchOption-at_none _ _ none c.in_ok-values.ensures))
 
 pub returns-in_err-elements-clause-fault : goal.returns-in_err-elements-clause-fault
 returns-in_err-elements-clause-fault c =
     let ms = pairs c.args.members.now in
     let id = MatchOption-at_some _ _ c.in-Some.id c.in-Some.is c.in_ok-id.ensures in
-    let status = MatchOption-at_some _ _ c.in-Some-status_named.published c.in-Some-status_named.is c.status_named.ensures in
+    let status =
+    MatchOption-at_some _ _ c.in-Some-status_named.published c.in-Some-status_named.is c.status_named.ensures in
     let created = MatchOption-at_some _ _ c.in-Some-time_named.created c.in-Some-time_named.is c.time_named.ensures in
     let name = MatchOption-at_some _ _ c.in-Some-2.name c.in-Some-2.is c.in_ok-name.ensures in
     let array = MatchOption-at_some _ _ c.in-Some-3.values c.in-Some-3.is c.in_ok-values.ensures in
     let p = err_from_is_err_and c.from_residual-in_err-elements.result c.from_residual-in_err-elements.ensures.1 in
     rw (p.1, p.2) (λ fault e.
-    first-among ms c.in-Some.id id c.in-Some-status_named.published status c.in-Some-time_named.created created c.in-Some-2.name name c.in-Some-3.values array fault
+    first-among ms c.in-Some.id id c.in-Some-status_named.published status c.in-Some-time_named.created created
+    c.in-Some-2.name name c.in-Some-3.values array fault
     (c.in_err-elements.ensures.fault fault (ap Err (stop-same _ _ _ e))))
 
 pub returns-clause-read : goal.returns-clause-read

@@ -7,6 +7,7 @@ use Rattle.library.proofs.shelf.push_filed.Given as goal
 
 abbrev pub invariant-loop-i : goal.invariant-loop-i
 invariant-loop-i l = record {
-  made : l.out.items ≡ l.initial.out.items ++ join_with_byte 44 (map item_text (take l.i-iterator.count (items_in l.items.entries)));
+  made : l.out.items ≡ l.initial.out.items
+      ++ join_with_byte 44 (map item_text (take l.i-iterator.count (items_in l.items.entries)));
   left : l.i-iterator.iter ≡ drop l.i-iterator.count (items_in l.items.entries);
 }

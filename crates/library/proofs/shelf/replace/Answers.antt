@@ -5,7 +5,8 @@ use Rattle.library.proofs.shelf.replace.Goals as goal
 pub returns-clause-filed : goal.returns-clause-filed
 returns-clause-filed c =
     let written = c.get_mut.follows.holds c.args.item in
-    filed-ordered (c.get_mut.follows.lender c.args.item).entries (rw written.0 (filed-set c.args.items.now.entries c.args.item c.requires.filed.under)) written.4
+    filed-ordered (c.get_mut.follows.lender c.args.item).entries
+    (rw written.0 (filed-set c.args.items.now.entries c.args.item c.requires.filed.under)) written.4
 
 pub returns-clause-after : goal.returns-clause-after
 returns-clause-after c = λ key.

@@ -9,7 +9,8 @@ pub returns-clause-arrows : goal.returns-clause-arrows
 returns-clause-arrows c = λ list distinct. ArrowsAgree-settled (settled_texts list) (distinct-texts list distinct)
 
 pub returns-clause-texts : goal.returns-clause-texts
-returns-clause-texts c = λ list distinct. TextsAgree-settled (settled_texts list) (distinct-texts list distinct) (settled_texts-again list distinct)
+returns-clause-texts c = λ list distinct. TextsAgree-settled (settled_texts list) (distinct-texts list distinct)
+    (settled_texts-again list distinct)
 
 pub returns-clause-one_text : goal.returns-clause-one_text
 returns-clause-one_text c = λ list. HaveOneText-settled (settled_texts list)

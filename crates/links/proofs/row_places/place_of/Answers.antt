@@ -9,12 +9,18 @@ ends_of-start-requires c = named-sorted c.args.named.now.items c.args.namers.now
 
 pub returns-in-Ok-clause-found : goal.returns-in-Ok-clause-found
 returns-in-Ok-clause-found c =
-    found-at c.args.named.now.items c.args.namers.now.items c.requires c.args.row.now c.ends_of-start.result.0 c.ends_of-start.result.1 c.ends_of-start.ensures
+    found-at c.args.named.now.items c.args.namers.now.items c.requires c.args.row.now c.ends_of-start.result.0
+    c.ends_of-start.result.1 c.ends_of-start.ensures
     c.in-Ok.i (rw c.deref.ensures.value at c.in-Ok.ensures.bound) (rw c.deref.ensures.value at (c.in-Ok.ensures.ok []))
 
 pub returns-in-Err-clause-absent : goal.returns-in-Err-clause-absent
 returns-in-Err-clause-absent c =
-    gap-at c.args.named.now.items c.args.namers.now.items c.requires c.args.row.now c.ends_of-start.result.0 c.ends_of-start.result.1 c.ends_of-start.ensures
+    gap-at c.args.named.now.items c.args.namers.now.items c.requires c.args.row.now c.ends_of-start.result.0
+    c.ends_of-start.result.1 c.ends_of-start.ensures
     c.in-Err.i (rw c.deref.ensures.value at c.in-Err.ensures.bound)
-    ((rw c.deref.ensures.value at c.in-Err.ensures.position) (searchable_from_sorted nat_list_cmp_total (λ x. x) (take (c.ends_of-start.result.1 - c.ends_of-start.result.0) (drop c.ends_of-start.result.0 c.args.namers.now.items)) c.args.row.now.namer
-    (among-sorted c.args.named.now.items c.args.namers.now.items c.requires c.args.row.now c.ends_of-start.result.0 c.ends_of-start.result.1 c.ends_of-start.ensures)))
+    ((rw c.deref.ensures.value at c.in-Err.ensures.position)
+    (searchable_from_sorted nat_list_cmp_total (λ x. x)
+    (take (c.ends_of-start.result.1 - c.ends_of-start.result.0)
+    (drop c.ends_of-start.result.0 c.args.namers.now.items)) c.args.row.now.namer
+    (among-sorted c.args.named.now.items c.args.namers.now.items c.requires c.args.row.now c.ends_of-start.result.0
+    c.ends_of-start.result.1 c.ends_of-start.ensures)))

@@ -4,12 +4,14 @@ use Rattle.links.proofs.RowSweep.{AreSwept-first, AreSwept-kept, AreSwept-remove
 use Rattle.links.proofs.row_places.take_out_namer.Goals as goal
 
 pub loop-i-init : goal.loop-i-init
-loop-i-init c = (AreSwept-first c.args.id.now c.args.named.now.items c.args.namers.now.items c.requires, omega arith, refl, refl)
+loop-i-init c =
+    (AreSwept-first c.args.id.now c.args.named.now.items c.args.namers.now.items c.requires, omega arith, refl, refl)
 
 pub loop-i-preserved-then-eq : goal.loop-i-preserved-then-eq
 loop-i-preserved-then-eq c = (
   rw (c.remove.ensures.items, c.remove-then-eq.ensures.items)
-      (AreSwept-removed c.args.id.now (rows_at c.args.named.now.items c.args.namers.now.items) c.loop-i.named.items c.loop-i.namers.items c.loop-i.i c.loop-i.invariant.0
+      (AreSwept-removed c.args.id.now (rows_at c.args.named.now.items c.args.namers.now.items) c.loop-i.named.items
+      c.loop-i.namers.items c.loop-i.i c.loop-i.invariant.0
       (omega arith) c.index.result.now c.index.ensures (sym c.eq.ensures ∙ c.if-eq.true)),
   omega (arith, c.remove.ensures.len, c.loop-i.invariant.1),
   c.remove.ensures.capacity ∙ c.loop-i.invariant.2,
@@ -18,7 +20,8 @@ loop-i-preserved-then-eq c = (
 
 pub loop-i-preserved : goal.loop-i-preserved
 loop-i-preserved c = (
-  AreSwept-kept c.args.id.now (rows_at c.args.named.now.items c.args.namers.now.items) c.loop-i.named.items c.loop-i.namers.items c.loop-i.i c.loop-i.invariant.0
+  AreSwept-kept c.args.id.now (rows_at c.args.named.now.items c.args.namers.now.items) c.loop-i.named.items
+      c.loop-i.namers.items c.loop-i.i c.loop-i.invariant.0
       (omega arith) c.index.result.now c.index.ensures (sym c.eq.ensures ∙ c.if-eq.false),
   c.loop-i.invariant.1,
   c.loop-i.invariant.2,
@@ -27,4 +30,5 @@ loop-i-preserved c = (
 
 pub returns-clause-rows : goal.returns-clause-rows
 returns-clause-rows c =
-    AreSwept-all c.args.id.now (rows_at c.args.named.now.items c.args.namers.now.items) c.loop-i.named.items c.loop-i.namers.items c.loop-i.i c.loop-i.invariant.0 (omega arith)
+    AreSwept-all c.args.id.now (rows_at c.args.named.now.items c.args.namers.now.items) c.loop-i.named.items
+    c.loop-i.namers.items c.loop-i.i c.loop-i.invariant.0 (omega arith)

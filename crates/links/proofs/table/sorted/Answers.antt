@@ -10,4 +10,5 @@ returns-clause-ordered c =
 
 pub returns-clause-kept : goal.returns-clause-kept
 returns-clause-kept c =
-    kept-under _ _ (c.in_ok-sort_by.ensures.stable row_less row_less-order (answers_always _ _ _ (λ f a r g k. search rules)))
+    kept-under _ _ (c.in_ok-sort_by.ensures.stable row_less row_less-order
+    (answers_always _ _ _ (λ f a r g k. search rules)))

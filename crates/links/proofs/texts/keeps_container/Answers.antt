@@ -12,6 +12,8 @@ pub returns : goal.returns
 returns c =
     let test = λ (container : ElementValue). names_container container.id c.args.e.now in
     let any : c.any.result ≡ list_any (λ row. test (row_element row)) c.rows_under.result.now =
-    any_from_yields_List (λ row. test (row_element row)) _ _ c.any.result c.any.ensures.ran (YieldsList-from_slice c.rows_under.result.now cc) (λ x b q k. search (rules, tests)) in
-    any ∙ sym (list_any-map row_element test c.rows_under.result.now) ∙ ap (λ rows. list_any test (map row_element rows)) c.rows_under.ensures
+    any_from_yields_List (λ row. test (row_element row)) _ _ c.any.result c.any.ensures.ran
+    (YieldsList-from_slice c.rows_under.result.now cc) (λ x b q k. search (rules, tests)) in
+    any ∙ sym (list_any-map row_element test c.rows_under.result.now)
+    ∙ ap (λ rows. list_any test (map row_element rows)) c.rows_under.ensures
     ∙ ap (λ id. list_any test (elements_under id c.args.containers.now.items)) c.id_of.ensures

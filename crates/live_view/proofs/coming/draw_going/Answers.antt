@@ -6,7 +6,8 @@ use Rattle.live_view.proofs.coming.draw_going.Goals as goal
 
 pub returns : goal.returns
 returns c =
-    let part : c.in_ok-part.part ≡ part_of_ids c.args.live.now.items c.in_ok-others.others.list.items = rw c.new.ensures.items at c.in_ok-part.ensures in
+    let part : c.in_ok-part.part ≡ part_of_ids c.args.live.now.items c.in_ok-others.others.list.items =
+    rw c.new.ensures.items at c.in_ok-part.ensures in
     IfOk-weaker c.puts_beside.result _ _
     (λ found is. IfSome-weaker _ _
     (λ puts beside. record {

@@ -11,7 +11,8 @@ use Rattle.live_view.proofs.drawing.kept_of.Goals.{After-table_of}
 pub shown_of-requires : goal.shown_of-requires
 shown_of-requires c =
     subst HaveDistinctIds (sym (c.from_vec.ensures ∙ (c.in_ok-elements_copied.ensures ∙ c.in_ok-stored.ensures.exact)))
-    (HaveDistinctIds-rising (live_elements c.args.store.now.elements) (live_elements-rise c.args.store.now.elements c.in_ok-stored.ensures.ordered))
+    (HaveDistinctIds-rising (live_elements c.args.store.now.elements)
+    (live_elements-rise c.args.store.now.elements c.in_ok-stored.ensures.ordered))
 
 pub all_shared_with-requires : goal.all_shared_with-requires
 all_shared_with-requires c =
@@ -21,14 +22,17 @@ all_shared_with-requires c =
 pub table_of-requires : goal.table_of-requires
 table_of-requires c =
     subst HaveDistinctIds (sym (c.in_ok-live.ensures ∙ c.in_ok-stored.ensures.exact))
-    (HaveDistinctIds-rising (live_elements c.args.store.now.elements) (live_elements-rise c.args.store.now.elements c.in_ok-stored.ensures.ordered))
+    (HaveDistinctIds-rising (live_elements c.args.store.now.elements)
+    (live_elements-rise c.args.store.now.elements c.in_ok-stored.ensures.ordered))
 
 view : (c : After-table_of) → IsView c.in_ok-live.live.items c.in_ok-shown-2.shown.items
 view c =
     let stored = c.args.store.now.elements in
     let copy = c.from_vec.ensures ∙ c.in_ok-elements_copied.ensures in
-    subst (λ live. IsView live c.in_ok-shown-2.shown.items) (sym (c.in_ok-live.ensures ∙ c.in_ok-stored.ensures.exact)) (record {
-      exact = c.in_ok-shown-2.ensures ∙ c.into_vec.ensures ∙ (c.in_ok-shown.ensures.exact ∙ ap shown (copy ∙ c.in_ok-stored.ensures.exact));
+    subst (λ live. IsView live c.in_ok-shown-2.shown.items) (sym (c.in_ok-live.ensures ∙ c.in_ok-stored.ensures.exact))
+    (record {
+      exact = c.in_ok-shown-2.ensures ∙ c.into_vec.ensures
+          ∙ (c.in_ok-shown.ensures.exact ∙ ap shown (copy ∙ c.in_ok-stored.ensures.exact));
       ordered = live_elements-rise stored c.in_ok-stored.ensures.ordered;
       all_live = live_elements-live stored;
       keys = subst HaveKeysOrNone (copy ∙ c.in_ok-stored.ensures.exact) c.in_ok-shown.ensures.keys;

@@ -11,10 +11,12 @@ sorted c = c.in_ok-sort.ensures ∙ ap in_scene_order c.into_vec-elements.ensure
 pub returns-clause-exact : goal.returns-clause-exact
 unfolding placed
 returns-clause-exact c =
-    c.from_vec.ensures ∙ (c.in_ok-with_repaired_keys.ensures.exact ∙ ap (λ es. keyed es (repaired (map index_of es))) (sorted c))
+    c.from_vec.ensures ∙ (c.in_ok-with_repaired_keys.ensures.exact
+    ∙ ap (λ es. keyed es (repaired (map index_of es))) (sorted c))
 
 pub returns-clause-keys : goal.returns-clause-keys
-returns-clause-keys c = keys-placed c.args.live (subst HaveKeysOrNone (sorted c) c.in_ok-with_repaired_keys.ensures.old_keys)
+returns-clause-keys c =
+    keys-placed c.args.live (subst HaveKeysOrNone (sorted c) c.in_ok-with_repaired_keys.ensures.old_keys)
 
 pub returns-clause-distinct : goal.returns-clause-distinct
 returns-clause-distinct c =

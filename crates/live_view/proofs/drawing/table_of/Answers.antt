@@ -10,5 +10,6 @@ returns c =
     (λ named namer.
     let row : LinkRow = record { named = named; namer = namer } in
     c.replace-2.ensures.rows row
-    ∙ ap (λ rows. has_row c.in_ok-rows.rows row || (has_row rows row && not (has_row c.new.result row))) (c.in_ok-reserve.ensures.rows ∙ c.new-table.ensures)
+    ∙ ap (λ rows. has_row c.in_ok-rows.rows row || (has_row rows row && not (has_row c.new.result row)))
+    (c.in_ok-reserve.ensures.rows ∙ c.new-table.ensures)
     ∙ or-none (has_row c.in_ok-rows.rows row) ∙ (c.in_ok-rows.ensures row ∙ c.in_ok-rows_of_all.ensures named namer))

@@ -8,5 +8,6 @@ use Rattle.live_view.proofs.following.taken_of.Given as goal
 abbrev pub invariant-loop-e : goal.invariant-loop-e
 invariant-loop-e l = record {
   ordered : are_rising (ids_of l.news.elements) ≡ true;
-  each : (id : List ℕ) → element_of (taken_all (take l.e-index l.changed) l.store.elements) id ≡ element_after l.store.elements l.news.elements id;
+  each : (id : List ℕ) → element_of (taken_all (take l.e-index l.changed) l.store.elements) id
+      ≡ element_after l.store.elements l.news.elements id;
 }

@@ -8,6 +8,7 @@ use Rattle.live_view.proofs.order.sort.Goals as goal
 pub returns : goal.returns
 returns c =
     on_ok_weaker c.sort_by.result
-    (λ sorted. in_order-from_sort scene_order c.args.elements.now.items c.sort_by.new.self.items c.requires c.sort_by.ensures.permutation
+    (λ sorted. in_order-from_sort scene_order c.args.elements.now.items c.sort_by.new.self.items c.requires
+    c.sort_by.ensures.permutation
     (sorted comes_before comes_before-order (answers_always _ _ _ (λ f a r g k. search rules))))
     c.sort_by.ensures.sorted

@@ -12,5 +12,7 @@ returns-clause-members c =
     (λ are. inr (λ m there names.
     are m.id
     ∙ or_left (is_among c.namers.result.now m.id) (is_among c.args.ids.now.list.items m.id)
-    (ap (λ ids. is_among ids m.id) c.namers.ensures.exact ∙ members-among c.args.live.now.items c.args.table.now.rows c.e.inside.id c.requires.ordered c.requires.table m there (names ∙ ap (λ (d : ElementValue). Some d.id) (sym c.e.view_is)))))
+    (ap (λ ids. is_among ids m.id) c.namers.ensures.exact
+    ∙ members-among c.args.live.now.items c.args.table.now.rows c.e.inside.id c.requires.ordered c.requires.table m
+    there (names ∙ ap (λ (d : ElementValue). Some d.id) (sym c.e.view_is)))))
     c.add_all.ensures.ids

@@ -12,13 +12,17 @@ loop-e-preserved c =
     let added = rw c.get.ensures at c.in_ok-add_frame.ensures.ids in
     record {
       are = c.in_ok-add_frame.ensures.are;
-      kept = λ x h. added x ∙ or_right (is_id x frame) (is_among c.loop-e.ids.list.items x) (c.loop-e.invariant.kept x h);
-      frames = frames_of-more c.args.elements.now.items c.loop-e.e-index c.e-item.result c.loop-e.ids.list.items c.add_frame.new.ids.list.items
-          (omega arith) (c.e-item.is ∙ ap (λ es. get_or es c.loop-e.e-index c.e-item.result) c.deref-e-items.ensures.value) c.loop-e.invariant.frames added;
+      kept =
+          λ x h. added x ∙ or_right (is_id x frame) (is_among c.loop-e.ids.list.items x) (c.loop-e.invariant.kept x h);
+      frames = frames_of-more c.args.elements.now.items c.loop-e.e-index c.e-item.result c.loop-e.ids.list.items
+          c.add_frame.new.ids.list.items
+          (omega arith) (c.e-item.is ∙ ap (λ es. get_or es c.loop-e.e-index c.e-item.result)
+          c.deref-e-items.ensures.value) c.loop-e.invariant.frames added;
     }
 
 pub returns-clause-frames : goal.returns-clause-frames
 returns-clause-frames c e frame there =
     let all : length c.args.elements.now.items ≤ c.loop-e.e-index = omega arith in
     All-contains (HasFrame c.loop-e.ids.list.items) c.args.elements.now.items e
-    (subst (All (HasFrame c.loop-e.ids.list.items)) (take_all c.loop-e.e-index c.args.elements.now.items all) c.loop-e.invariant.frames) there frame
+    (subst (All (HasFrame c.loop-e.ids.list.items)) (take_all c.loop-e.e-index c.args.elements.now.items all)
+    c.loop-e.invariant.frames) there frame

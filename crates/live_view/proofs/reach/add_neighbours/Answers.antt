@@ -9,6 +9,7 @@ both (Err e) f p q = tt
 pub returns-clause-stepped : goal.returns-clause-stepped
 returns-clause-stepped c =
     both c.add_linking.result
-    (neighbours c.args.live.now.items c.args.id.now c.args.ids.now.list.items c.add_linked_by.new.ids.list.items c.add_linking.new.ids.list.items c.requires.ordered
+    (neighbours c.args.live.now.items c.args.id.now c.args.ids.now.list.items c.add_linked_by.new.ids.list.items
+    c.add_linking.new.ids.list.items c.requires.ordered
     c.in_ok-add_linked_by.ensures.kept c.in_ok-add_linked_by.ensures.linked)
     c.add_linking.ensures.kept c.add_linking.ensures.linking

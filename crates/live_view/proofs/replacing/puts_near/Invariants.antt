@@ -9,6 +9,7 @@ use Rattle.live_view.proofs.replacing.puts_near.Given as goal
 abbrev pub invariant-loop-e : goal.invariant-loop-e
 invariant-loop-e l = record {
   placed : All (IsInPlace l.shown.items) l.puts.items;
-  drawn : map without_index (puts_of l.puts.items) ≡ map without_index (filter (λ (e : ElementValue). is_among l.near.list.items e.id) l.yielded);
+  drawn : map without_index (puts_of l.puts.items)
+      ≡ map without_index (filter (λ (e : ElementValue). is_among l.near.list.items e.id) l.yielded);
   parts : l.fn.elements ≡ l.yielded ++ l.e-iterator.rest.items;
 }

@@ -5,10 +5,12 @@ use Rattle.live_view.proofs.Picked.{distinct-after}
 use Rattle.live_view.proofs.replacing.settled_after.Goals as goal
 
 pub sort-requires : goal.sort-requires
-sort-requires c = rw c.in_ok-elements.ensures (distinct-after c.args.live.now.items c.args.news.now.items c.args.ids.now.items c.requires.distinct)
+sort-requires c = rw c.in_ok-elements.ensures (distinct-after c.args.live.now.items c.args.news.now.items
+    c.args.ids.now.items c.requires.distinct)
 
 pub settled_of-requires : goal.settled_of-requires
 settled_of-requires c =
     let found = filter_map (element_after c.args.live.now.items c.args.news.now.items) c.args.ids.now.items in
     rw (c.from_vec.ensures, c.in_ok-sort.ensures, c.in_ok-elements.ensures)
-    (HaveDistinctIds-permuted found _ (IsPermutation-in_scene_order found) (distinct-after c.args.live.now.items c.args.news.now.items c.args.ids.now.items c.requires.distinct))
+    (HaveDistinctIds-permuted found _ (IsPermutation-in_scene_order found)
+    (distinct-after c.args.live.now.items c.args.news.now.items c.args.ids.now.items c.requires.distinct))

@@ -15,12 +15,15 @@ returns c =
       start = c.add_members.new.ids.list.items;
       near = c.in_ok-near.near.list.items;
       wide = c.in_ok-wide.wide.list.items;
-      started = started-kept c.args.news.now.items c.in_ok-start.start.list.items c.add_members.new.ids.list.items c.in_ok-add_members.ensures.kept
+      started = started-kept c.args.news.now.items c.in_ok-start.start.list.items c.add_members.new.ids.list.items
+          c.in_ok-add_members.ensures.kept
           (rw c.deref.ensures.value at c.in_ok-start.ensures.started);
       frames_started = c.in_ok-add_members.ensures.members;
       reached = c.in_ok-near.ensures.reached;
       surrounded = c.in_ok-wide.ensures.surrounded;
       placed = drawn.0;
-      drawn = drawn.1 ∙ ap (λ es. map without_index (filter (λ (e : ElementValue). is_among c.in_ok-near.near.list.items e.id) es)) c.in_ok-part.ensures;
+      drawn = drawn.1
+          ∙ ap (λ es. map without_index (filter (λ (e : ElementValue). is_among c.in_ok-near.near.list.items e.id) es))
+          c.in_ok-part.ensures;
     }) found is)
     c.puts_near.ensures

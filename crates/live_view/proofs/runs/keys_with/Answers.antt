@@ -15,8 +15,11 @@ returns-in-Some c =
       begins = c.run_start-start.ensures;
       end' = c.end_with-end.result;
       behind = c.end_with-end.ensures.0;
-      within = omega (arith, c.end_with-end.ensures.1, length-map shown (λ (e : ElementValue). (as_stored live e).index));
+      within =
+          omega (arith, c.end_with-end.ensures.1, length-map shown (λ (e : ElementValue). (as_stored live e).index));
       repaired = subst (λ part. AreRepaired (stored_keys live shown) part c.end_with-end.result c.in-Some.keys)
-          (c.in_ok-insert.ensures.items ∙ ap₂ (λ (ps : List (Option (List ℕ))) (k : Option (List ℕ)). insert ps (place - start) k) c.in_ok-part.ensures c.in_ok-key_copied.ensures)
+          (c.in_ok-insert.ensures.items
+          ∙ ap₂ (λ (ps : List (Option (List ℕ))) (k : Option (List ℕ)). insert ps (place - start) k)
+          c.in_ok-part.ensures c.in_ok-key_copied.ensures)
           (rw c.in-Some.is at c.in_ok-keys.ensures);
     }

@@ -4,4 +4,5 @@ use Rattle.reconcile.proofs.taking.reconcile.Goals as goal
 
 pub returns-clause-stored : goal.returns-clause-stored
 returns-clause-stored c updates are =
-    rw (← c.in_ok-copies.ensures, ← c.from_vec.ensures) (c.take_all.ensures updates (subst (AreStored updates) (sym c.in_ok-reserve.ensures.elements) are))
+    rw (← c.in_ok-copies.ensures, ← c.from_vec.ensures)
+    (c.take_all.ensures updates (subst (AreStored updates) (sym c.in_ok-reserve.ensures.elements) are))

@@ -30,10 +30,12 @@ returns-then-is_whole-2 c =
 pub returns : goal.returns
 returns c =
     let ms = c.sort_by.new.self.items in
-    let sorted = c.in_ok-sort_by.ensures.sorted comes_before (ranks_by nat_list_cmp_total (λ (m : Member). m.name)) (answers_always _ _ _ (λ f a r g h. search rules)) in
+    let sorted = c.in_ok-sort_by.ensures.sorted comes_before (ranks_by nat_list_cmp_total (λ (m : Member). m.name))
+    (answers_always _ _ _ (λ f a r g h. search rules)) in
     record {
       ordered = ms;
-      moved = IsPermutation-trans _ _ _ c.in_ok-sort_by_cached_key.ensures.permutation c.in_ok-sort_by.ensures.permutation;
+      moved =
+          IsPermutation-trans _ _ _ c.in_ok-sort_by_cached_key.ensures.permutation c.in_ok-sort_by.ensures.permutation;
       rise = λ apart. rising_from_sort ms sorted (subst (IsDistinct bytes_eq) (names-pairs ms) apart);
       made = c.in_ok-fill_up.ensures;
     }

@@ -12,7 +12,8 @@ abbrev pub invariant-loop-row : goal.invariant-loop-row
 invariant-loop-row l = record {
   bound : l.place ≤ length l.members.items;
   compact : AllByRecursion (λ (row : Row). IsCompact 1 row.default.now) l.left;
-  made : pairs (take l.place l.members.items) ++ merged (pairs (drop l.place l.members.items)) (map row_pair l.left) ≡ merged (pairs l.initial.members.items) defaults;
+  made : pairs (take l.place l.members.items) ++ merged (pairs (drop l.place l.members.items)) (map row_pair l.left)
+      ≡ merged (pairs l.initial.members.items) defaults;
 }
 
 abbrev pub decreases-loop-row : goal.decreases-loop-row

@@ -16,11 +16,13 @@ returns-clause-restored c =
     let moved = IsPermutation-map pair_of us done.ordered done.moved in
     let update = c.in_ok-members.ensures.updated in
     restored-from (pairs c.args.members) (pairs us) (pairs done.ordered) (pairs c.from_vec.result) update moved
-    (done.rise (distinct_moved (pairs us) (pairs done.ordered) moved update.distinct)) (ap pairs c.from_vec.ensures ∙ done.made)
+    (done.rise (distinct_moved (pairs us) (pairs done.ordered) moved update.distinct)) (ap pairs c.from_vec.ensures
+    ∙ done.made)
 
 pub returns-clause-nests : goal.returns-clause-nests
 returns-clause-nests c = λ limit wide each.
     let done = c.in_ok-complete.ensures in
     merged-nests limit done.ordered c.from_vec.result wide
-    (All-permutation (λ (m : Member). IsCompact limit m.value) c.in_ok-members.members.items done.ordered done.moved (c.in_ok-members.ensures.nests limit wide each))
+    (All-permutation (λ (m : Member). IsCompact limit m.value) c.in_ok-members.members.items done.ordered done.moved
+    (c.in_ok-members.ensures.nests limit wide each))
     (ap pairs c.from_vec.ensures ∙ done.made)

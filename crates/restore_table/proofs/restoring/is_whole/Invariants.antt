@@ -8,5 +8,6 @@ use Rattle.restore_table.proofs.restoring.is_whole.Given as goal
 abbrev pub invariant-loop-member : goal.invariant-loop-member
 invariant-loop-member l = record {
   rise : RiseAfter (name_of (option_copied l.last)) (map row_pair l.left);
-  whole : IsWholeAfter (name_of (option_copied l.last)) (map row_pair l.left) (pairs (drop l.member-index l.members)) → IsWholeAfter [] defaults (pairs l.members);
+  whole : IsWholeAfter (name_of (option_copied l.last)) (map row_pair l.left) (pairs (drop l.member-index l.members))
+      → IsWholeAfter [] defaults (pairs l.members);
 }

@@ -25,14 +25,16 @@ pub returns-then-eq-clause-rise : goal.returns-then-eq-clause-rise
 returns-then-eq-clause-rise c =
     rw c.then_some.ensures
     (if_some _ c.stays.result c.in-Some.others (λ held.
-    rw (named c) (first_name (name_of (option_copied c.args.last)) (row_pair c.in-Some.row.now) (map row_pair c.in-Some.others.now) (rw (first c) at c.requires))))
+    rw (named c) (first_name (name_of (option_copied c.args.last)) (row_pair c.in-Some.row.now)
+    (map row_pair c.in-Some.others.now) (rw (first c) at c.requires))))
 
 pub returns-then-eq-clause-whole : goal.returns-then-eq-clause-whole
 returns-then-eq-clause-whole c =
     rw c.then_some.ensures
     (if_some _ c.stays.result c.in-Some.others (λ held others whole.
     rw (first c)
-    (whole-row (name_of (option_copied c.args.last)) (row_pair c.in-Some.row.now) (pair_of c.args.member.now) (map row_pair c.in-Some.others.now) others (rw (first c) at c.requires)
+    (whole-row (name_of (option_copied c.args.last)) (row_pair c.in-Some.row.now) (pair_of c.args.member.now)
+    (map row_pair c.in-Some.others.now) others (rw (first c) at c.requires)
     (named c) (c.stays.ensures held) whole)))
 
 before : (c : goal.After-then_some-2) → IsBeforeFirst c.args.member.now.name (map row_pair c.args.rows.now)
@@ -47,13 +49,16 @@ before c = elim c.match-split_first.branch [
 pub returns-clause-rise : goal.returns-clause-rise
 returns-clause-rise c =
     rw c.then_some-2.ensures
-    (if_some _ c.is_less-2.result c.args.rows (λ held. rise-before (name_of (option_copied c.args.last)) c.args.member.now.name (map row_pair c.args.rows.now) c.requires (before c)))
+    (if_some _ c.is_less-2.result c.args.rows (λ held. rise-before (name_of (option_copied c.args.last))
+    c.args.member.now.name (map row_pair c.args.rows.now) c.requires (before c)))
 
-behind : (c : goal.After-then_some-2) → c.is_less-2.result ≡ true → slice_cmp nat_cmp (name_of (option_copied c.args.last)) c.args.member.now.name ≡ Less
+behind : (c : goal.After-then_some-2) → c.is_less-2.result ≡ true
+    → slice_cmp nat_cmp (name_of (option_copied c.args.last)) c.args.member.now.name ≡ Less
 behind c held = search rules
 
 pub returns-clause-whole : goal.returns-clause-whole
 returns-clause-whole c =
     rw c.then_some-2.ensures
     (if_some _ c.is_less-2.result c.args.rows (λ held others whole.
-    whole-member (name_of (option_copied c.args.last)) (pair_of c.args.member.now) (map row_pair c.args.rows.now) others (behind c held) (before c) whole))
+    whole-member (name_of (option_copied c.args.last)) (pair_of c.args.member.now) (map row_pair c.args.rows.now) others
+    (behind c held) (before c) whole))

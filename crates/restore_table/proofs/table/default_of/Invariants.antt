@@ -4,4 +4,5 @@ use Rattle.restore_table.specs.Merged.{row_pair}
 use Rattle.restore_table.proofs.table.default_of.Given as goal
 
 abbrev pub invariant-loop-row : goal.invariant-loop-row
-invariant-loop-row l = value_at l.name (map row_pair l.row-items) ≡ value_at l.name (map row_pair (drop l.row-index l.row-items))
+invariant-loop-row l =
+    value_at l.name (map row_pair l.row-items) ≡ value_at l.name (map row_pair (drop l.row-index l.row-items))

@@ -15,12 +15,14 @@ returns-in_err-push-in-Err-Gone-clause-cut g c =
     let after = g.L.Links.seen c.send.new.self in
     let try : Try = record { link = link; text = text; is_sent = false } in
     let facts = c.in-Err-Gone.ensures in
-    let lost = tells-lost (g.L.Links.seen c.loop-link.links) after link text facts.given facts.err (facts.lost (ap Err c.in-Err-Gone.field-0-is)) in
+    let lost = tells-lost (g.L.Links.seen c.loop-link.links) after link text facts.given facts.err
+    (facts.lost (ap Err c.in-Err-Gone.field-0-is)) in
     let within : i < length links = rw c.as_slice-link-items.ensures at c.loop-link-test.true in
     on_err c.from_residual.result (
       c.loop-link.gone.items ++ link ∷ [],
       drop (i + 1) (texts_told c.args.told.now),
-      told-next (g.L.Links.seen c.args.links.now) (g.L.Links.seen c.loop-link.links) after links text c.loop-link.gone.items i try within
+      told-next (g.L.Links.seen c.args.links.now) (g.L.Links.seen c.loop-link.links) after links text
+          c.loop-link.gone.items i try within
           (ap (λ xs. get_or xs i 0) (sym c.as_slice-link-items.ensures)) refl c.loop-link.invariant.tried lost,
     )
 
@@ -38,7 +40,8 @@ loop-link-preserved g c =
       | in-Ok w ↦
           let facts = w.in-Ok.ensures in
           let try : Try = record { link = link; text = text; is_sent = true } in
-          let tried = told-next (g.L.Links.seen c.args.links.now) before after links text c.loop-link.gone.items i try within here refl c.loop-link.invariant.tried
+          let tried = told-next (g.L.Links.seen c.args.links.now) before after links text c.loop-link.gone.items i try
+          within here refl c.loop-link.invariant.tried
           (tells-sent before after link text facts.given facts.ok facts.kept) in
           record {
             tried = rw (ap (λ v. v.items) w.gone-is, ← append-nil c.loop-link.gone.items) tried;
@@ -50,7 +53,8 @@ loop-link-preserved g c =
       | in-Err-Gone+in_ok-push-in-Err-Gone w ↦
           let facts = w.in-Err-Gone.ensures in
           let try : Try = record { link = link; text = text; is_sent = false } in
-          let tried = told-next (g.L.Links.seen c.args.links.now) before after links text c.loop-link.gone.items i try within here refl c.loop-link.invariant.tried
+          let tried = told-next (g.L.Links.seen c.args.links.now) before after links text c.loop-link.gone.items i try
+          within here refl c.loop-link.invariant.tried
           (tells-lost before after link text facts.given facts.err (facts.lost (ap Err w.in-Err-Gone.field-0-is))) in
           record {
             tried = rw (ap (λ v. v.items) w.gone-is, w.in_ok-push-in-Err-Gone.ensures.items) tried;

@@ -9,6 +9,9 @@ pub returns-clause-whole : goal.returns-clause-whole
 returns-clause-whole g c =
     let plan = c.in_ok-plan.plan in
     let planned : IsPlanned c.plan.new.self.state c.args.event.now plan =
-    subst (λ (room : RoomState). IsPlanned room c.args.event.now plan) (sym c.plan.ensures.state) c.in_ok-plan.ensures.planned in
-    event-served c.args.room.now.state c.plan.new.self.state c.put-told.new.self.state c.close_all.new.self.state c.args.event.now (texts_told c.put-told.result) _ _
-    c.plan.ensures.state (c.put-told.ensures.stepped c.args.event.now planned) _ _ c.in_ok-gone.ensures.tried c.deref.ensures.value c.close_all.ensures
+    subst (λ (room : RoomState). IsPlanned room c.args.event.now plan) (sym c.plan.ensures.state)
+    c.in_ok-plan.ensures.planned in
+    event-served c.args.room.now.state c.plan.new.self.state c.put-told.new.self.state c.close_all.new.self.state
+    c.args.event.now (texts_told c.put-told.result) _ _
+    c.plan.ensures.state (c.put-told.ensures.stepped c.args.event.now planned) _ _ c.in_ok-gone.ensures.tried
+    c.deref.ensures.value c.close_all.ensures

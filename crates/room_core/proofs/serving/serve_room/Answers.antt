@@ -11,7 +11,8 @@ loop-end-preserved g c =
     let facts = c.in-Ok.ensures in
     let held = c.loop-end.invariant in
     record {
-      served = λ new after end served. held.served new after end (served-then c.args.limits.now _ held.running _ new _ _ after end facts.on served);
+      served = λ new after end served. held.served new after end
+          (served-then c.args.limits.now _ held.running _ new _ _ after end facts.on served);
       running = facts.running;
       within = facts.within;
       port = facts.port ∙ held.port;

@@ -12,12 +12,14 @@ loop-end-preserved g c =
     let facts = c.in-Ok.ensures in
     let held = c.loop-end.invariant in
     record {
-      kept = λ new after journal end kept. held.kept new after journal end (kept-then c.args.limits.now _ held.running _ _ _ new _ _ after _ _ journal end facts.on kept);
+      kept = λ new after journal end kept. held.kept new after journal end
+          (kept-then c.args.limits.now _ held.running _ _ _ new _ _ after _ _ journal end facts.on kept);
       running = facts.running;
       within = facts.within;
       few = facts.few;
       synced = facts.on.synced;
-      safe = keeps-more (g.J.Sink.seen c.args.journal.now) (g.J.Sink.seen c.loop-end.journal) (g.J.Sink.seen c.keep_round.new.journal) held.safe c.keep_round.ensures.safe;
+      safe = keeps-more (g.J.Sink.seen c.args.journal.now) (g.J.Sink.seen c.loop-end.journal)
+          (g.J.Sink.seen c.keep_round.new.journal) held.safe c.keep_round.ensures.safe;
       port = facts.port ∙ held.port;
       listens = facts.listens ∙ held.listens;
       counted = omega (arith, facts.counted, held.counted);

@@ -11,8 +11,10 @@ use Rattle.room_disk.proofs.keeping.keep_on.Given as goal
 abbrev pub invariant-loop-end : goal.invariant-loop-end
 invariant-loop-end g l = record {
   kept : (new : RoomState) (after : LinksEnd) (journal : SinkEnd) (end : KeepEnd)
-      → IsKeptOn l.limits (serving_of l.room.state l.tally) l.messages new (g.L.Links.seen l.links) after (g.J.Sink.seen l.journal) journal end
-      → IsKeptOn l.limits (at_start l.initial.room.state) 0 new (g.L.Links.seen l.initial.links) after (g.J.Sink.seen l.initial.journal) journal end;
+      → IsKeptOn l.limits (serving_of l.room.state l.tally) l.messages new (g.L.Links.seen l.links) after
+      (g.J.Sink.seen l.journal) journal end
+      → IsKeptOn l.limits (at_start l.initial.room.state) 0 new (g.L.Links.seen l.initial.links) after
+      (g.J.Sink.seen l.initial.journal) journal end;
   running : end_of l.limits (serving_of l.room.state l.tally) ≡ None;
   within : l.tally.opened ≤ l.limits.links;
   few : l.messages ≤ l.tally.stepped;

@@ -12,7 +12,8 @@ returns-in_err-gone-clause-cut g c =
     err-made c.from_residual.result (
       cut.0,
       cut.1 ++ texts_told c.args.kept.now,
-      tried-first (g.L.Links.seen c.args.links.now) (g.L.Links.seen c.send_all.new.links) (texts_told c.args.told.now) (texts_told c.args.kept.now) cut.0 cut.1 cut.2,
+      tried-first (g.L.Links.seen c.args.links.now) (g.L.Links.seen c.send_all.new.links) (texts_told c.args.told.now)
+          (texts_told c.args.kept.now) cut.0 cut.1 cut.2,
     )
 
 pub returns-in_err-more-clause-cut : goal.returns-in_err-more-clause-cut
@@ -21,7 +22,8 @@ returns-in_err-more-clause-cut g c =
     err-made c.from_residual-in_err-more.result (
       c.in_ok-gone.gone.items ++ cut.0,
       cut.1,
-      tried-twice (g.L.Links.seen c.args.links.now) (g.L.Links.seen c.send_all.new.links) (g.L.Links.seen c.send_all-2.new.links) (texts_told c.args.told.now) (texts_told c.args.kept.now)
+      tried-twice (g.L.Links.seen c.args.links.now) (g.L.Links.seen c.send_all.new.links)
+          (g.L.Links.seen c.send_all-2.new.links) (texts_told c.args.told.now) (texts_told c.args.kept.now)
           c.in_ok-gone.gone.items cut.0 cut.1 c.in_ok-gone.ensures.tried cut.2,
     )
 
@@ -30,7 +32,8 @@ returns-in_err-extend_from_slice-clause-cut g c =
     err-made c.from_residual-in_err-extend_from_slice.result (
       c.in_ok-gone.gone.items ++ c.in_ok-more.more.items,
       [],
-      tried-twice (g.L.Links.seen c.args.links.now) (g.L.Links.seen c.send_all.new.links) (g.L.Links.seen c.send_all-2.new.links) (texts_told c.args.told.now) (texts_told c.args.kept.now)
+      tried-twice (g.L.Links.seen c.args.links.now) (g.L.Links.seen c.send_all.new.links)
+          (g.L.Links.seen c.send_all-2.new.links) (texts_told c.args.told.now) (texts_told c.args.kept.now)
           c.in_ok-gone.gone.items c.in_ok-more.more.items [] c.in_ok-gone.ensures.tried c.in_ok-more.ensures.tried,
     )
 
@@ -38,7 +41,9 @@ pub returns-clause-tried : goal.returns-clause-tried
 returns-clause-tried g c =
     let all : c.extend_from_slice.new.self.items ≡ c.in_ok-gone.gone.items ++ c.in_ok-more.more.items =
     c.in_ok-extend_from_slice.ensures.items ∙ ap (λ items. c.in_ok-gone.gone.items ++ items) c.deref.ensures.value in
-    subst (λ gone. HaveTried (g.L.Links.seen c.args.links.now) (g.L.Links.seen c.send_all-2.new.links) (texts_told c.args.told.now ++ texts_told c.args.kept.now) gone [])
+    subst (λ gone. HaveTried (g.L.Links.seen c.args.links.now) (g.L.Links.seen c.send_all-2.new.links)
+    (texts_told c.args.told.now ++ texts_told c.args.kept.now) gone [])
     (sym all)
-    (tried-twice (g.L.Links.seen c.args.links.now) (g.L.Links.seen c.send_all.new.links) (g.L.Links.seen c.send_all-2.new.links) (texts_told c.args.told.now) (texts_told c.args.kept.now)
+    (tried-twice (g.L.Links.seen c.args.links.now) (g.L.Links.seen c.send_all.new.links)
+    (g.L.Links.seen c.send_all-2.new.links) (texts_told c.args.told.now) (texts_told c.args.kept.now)
     c.in_ok-gone.gone.items c.in_ok-more.more.items [] c.in_ok-gone.ensures.tried c.in_ok-more.ensures.tried)

@@ -7,5 +7,11 @@ returns-clause-alone c = record {
   rest = drop c.in-Ok.found.1 c.args.line.now;
   stands = c.in-Ok.ensures.found;
   space = run-blank (drop c.in-Ok.found.1 c.args.line.now)
-      (omega (arith, c.skip_space-at.ensures, c.if-at-line.false, c.in-Ok.ensures.within.1, length-drop c.in-Ok.found.1 c.args.line.now));
+      (omega (
+        arith,
+        c.skip_space-at.ensures,
+        c.if-at-line.false,
+        c.in-Ok.ensures.within.1,
+        length-drop c.in-Ok.found.1 c.args.line.now,
+      ));
 }

@@ -6,5 +6,6 @@ pub returns-clause-taken : goal.returns-clause-taken
 returns-clause-taken c = record {
   elements = c.in_ok-elements.elements;
   read = c.in_ok-elements.ensures.read;
-  taken = λ updates are. c.take_all.ensures updates (subst (AreStored updates) (sym c.in_ok-reserve.ensures.elements) are);
+  taken =
+      λ updates are. c.take_all.ensures updates (subst (AreStored updates) (sym c.in_ok-reserve.ensures.elements) are);
 }

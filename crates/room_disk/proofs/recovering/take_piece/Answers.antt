@@ -13,7 +13,8 @@ stretches-preserved c =
     record {
       within = omega (arith, long, c.in_ok-at.ensures.within, c.stretches.invariant.within);
       taken = λ stream stands.
-          let both = ap (λ front. stream ++ (take at piece ++ take n front)) (take_rest piece at) ∙ ap (λ front. stream ++ front) (sym (take-add at n piece)) in
+          let both = ap (λ front. stream ++ (take at piece ++ take n front)) (take_rest piece at)
+          ∙ ap (λ front. stream ++ front) (sym (take-add at n piece)) in
           subst (λ bytes. StandsIn bytes c.take_stretch.new.begun.items c.take_stretch.new.recovery)
           (append_assoc stream (take at piece) (take n (take (length piece - at) (drop at piece))) ∙ both)
           (c.in_ok-at.ensures.taken (stream ++ take at piece) (c.stretches.invariant.taken stream stands));

@@ -6,7 +6,8 @@ use Rattle.room_disk.proofs.recovering.take_piece.Given as goal
 abbrev pub invariant-stretches : goal.invariant-stretches
 invariant-stretches l = record {
   within : l.at ≤ length l.piece;
-  taken : (stream : Items ℕ) → StandsIn stream l.fn.begun.items l.fn.recovery → StandsIn (stream ++ take l.at l.piece) l.begun.items l.recovery;
+  taken : (stream : Items ℕ) → StandsIn stream l.fn.begun.items l.fn.recovery
+      → StandsIn (stream ++ take l.at l.piece) l.begun.items l.recovery;
 }
 
 abbrev pub decreases-stretches : goal.decreases-stretches

@@ -3,4 +3,5 @@ use Rattle.std.proofs.lemmas.Iterator.{items_from_collect, YieldsList-from_range
 use Rattle.room_disk.proofs.resuming.all_indices.Goals as goal
 
 pub returns : goal.returns
-returns c = items_from_collect c.collect.result c.collect.ensures.ran (YieldsList-from_range 0 c.args.length c.args.length refl (omega arith))
+returns c = items_from_collect c.collect.result c.collect.ensures.ran
+    (YieldsList-from_range 0 c.args.length c.args.length refl (omega arith))

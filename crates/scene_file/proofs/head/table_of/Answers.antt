@@ -5,4 +5,5 @@ use Rattle.file_table.proofs.CallerLemmas.{AreLeastEntries-none}
 use Rattle.scene_file.proofs.head.table_of.Goals as goal
 
 pub returns : goal.returns
-returns c = c.in_ok-take_all-2.ensures (pairs c.args.members.now) (c.in_ok-take_all.ensures [] (subst (AreLeastEntries []) (sym c.new-table.ensures) AreLeastEntries-none))
+returns c = c.in_ok-take_all-2.ensures (pairs c.args.members.now)
+    (c.in_ok-take_all.ensures [] (subst (AreLeastEntries []) (sym c.new-table.ensures) AreLeastEntries-none))

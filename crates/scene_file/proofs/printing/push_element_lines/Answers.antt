@@ -9,9 +9,11 @@ use Rattle.elem.specs.Texts.{element_text}
 use Rattle.scene_file.proofs.printing.push_element_lines.Goals as goal
 
 -- a comma, where it isn't the first text, and a text make the texts of one element more
-piece_behind : (text : List ℕ) (es : List ElementValue) (e : ElementValue) (i : ℕ) (cleared comma piece : List ℕ) → i < length es → e ≡ get_or es i e → cleared ≡ []
+piece_behind : (text : List ℕ) (es : List ElementValue) (e : ElementValue) (i : ℕ) (cleared comma piece : List ℕ)
+    → i < length es → e ≡ get_or es i e → cleared ≡ []
     → ((0 < i) × (comma ≡ cleared ++ 44 ∷ [])) ⊎ ((i ≡ 0) × (comma ≡ cleared)) → piece ≡ comma ++ element_text e
-    → (text ++ join_with_byte 44 (map element_text (take i es))) ++ piece ≡ text ++ join_with_byte 44 (map element_text (take (i + 1) es))
+    → (text ++ join_with_byte 44 (map element_text (take i es))) ++ piece ≡ text
+    ++ join_with_byte 44 (map element_text (take (i + 1) es))
 piece_behind text es e i cleared comma piece inside at empty between last =
     let before = text ++ join_with_byte 44 (map element_text (take i es)) in
     let parted : ((0 < i) × (before ++ comma ≡ before ++ 44 ∷ [])) ⊎ ((i ≡ 0) × (before ++ comma ≡ before)) =
@@ -24,7 +26,8 @@ piece_behind text es e i cleared comma piece inside at empty between last =
 
 pub loop-i-init : goal.loop-i-init
 loop-i-init c = record {
-  made = λ text so_far. subst (λ t. IsLaidOutSoFar c.args.lines.now t c.args.out.now.items) (sym (append-nil text)) so_far;
+  made =
+      λ text so_far. subst (λ t. IsLaidOutSoFar c.args.lines.now t c.args.out.now.items) (sym (append-nil text)) so_far;
   nest = λ k d low. absurd (omega arith);
 }
 
@@ -37,10 +40,12 @@ loop-i-preserved c =
           let before = text ++ join_with_byte 44 (map element_text (take c.loop-i.i es)) in
           subst (λ t. IsLaidOutSoFar c.push.new.self t c.push.new.out.items)
           (ap (λ x. before ++ x) c.as_slice.ensures.value
-          ∙ piece_behind text es c.index-elements-i.result c.loop-i.i c.clear.new.self.items c.push_comma.new.out.items c.push_element.new.out.items inside
+          ∙ piece_behind text es c.index-elements-i.result c.loop-i.i c.clear.new.self.items c.push_comma.new.out.items
+          c.push_element.new.out.items inside
           c.index-elements-i.is c.clear.ensures.items c.in_ok-push_comma.ensures.ok c.in_ok-push_element.ensures.text)
           (c.in_ok-push.ensures.ok before (c.loop-i.invariant.made text so_far));
-      nest = All-more (λ e. IsCompact 120 (element_text e)) es c.loop-i.i c.index-elements-i.result inside c.loop-i.invariant.nest
+      nest = All-more (λ e. IsCompact 120 (element_text e)) es c.loop-i.i c.index-elements-i.result inside
+          c.loop-i.invariant.nest
           (subst (λ e. IsCompact 120 (element_text e)) c.index-elements-i.is c.in_ok-push_element.ensures.nests);
     }
 
@@ -51,4 +56,5 @@ returns-clause-laid_out c text so_far =
 
 pub returns-clause-nest : goal.returns-clause-nest
 returns-clause-nest c =
-    All-same (λ e. IsCompact 120 (element_text e)) c.args.elements.now _ (sym (take_all c.loop-i.i c.args.elements.now (omega arith))) c.loop-i.invariant.nest
+    All-same (λ e. IsCompact 120 (element_text e)) c.args.elements.now _
+    (sym (take_all c.loop-i.i c.args.elements.now (omega arith))) c.loop-i.invariant.nest

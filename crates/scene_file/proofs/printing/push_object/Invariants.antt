@@ -9,6 +9,7 @@ use Rattle.scene_file.proofs.printing.push_object.Given as goal
 
 abbrev pub invariant-loop-i : goal.invariant-loop-i
 invariant-loop-i l = record {
-  made : l.out.items ≡ l.initial.out.items ++ join_with_byte 44 (map (λ (m : Member). member_text (pair_of m)) (take l.i l.member-items));
+  made : l.out.items ≡ l.initial.out.items
+      ++ join_with_byte 44 (map (λ (m : Member). member_text (pair_of m)) (take l.i l.member-items));
   named : All (λ (m : Member). IsUtf8 m.name) (take l.i l.member-items);
 }

@@ -15,16 +15,22 @@ push_back-requires-clause-settings_nest c = c.head.invariant.nest
 
 pub returns-clause-text : goal.returns-clause-text
 returns-clause-text c =
-    let head : Heading = record { source = c.head.inside.source; app_state = c.head.inside.app_state; files = c.head.inside.files } in
-    subst (λ (h : Heading). c.push_back.new.out.items ≡ c.args.out.now.items ++ scene_text h c.args.elements.now) c.head.view_is
-    (scene-written head c.args.elements.now (pairs c.in_ok-files.files) c.args.out.now.items c.push_front.new.out.items c.push_elements.new.out.items c.push_back.new.out.items
+    let head : Heading =
+    record { source = c.head.inside.source; app_state = c.head.inside.app_state; files = c.head.inside.files } in
+    subst (λ (h : Heading). c.push_back.new.out.items ≡ c.args.out.now.items ++ scene_text h c.args.elements.now)
+    c.head.view_is
+    (scene-written head c.args.elements.now (pairs c.in_ok-files.files) c.args.out.now.items c.push_front.new.out.items
+    c.push_elements.new.out.items c.push_back.new.out.items
     c.in_ok-push_front.ensures.text c.in_ok-push_elements.ensures.text c.in_ok-push_back.ensures.text
-    ∙ ap (λ text. c.args.out.now.items ++ text) (scene-told head c.args.elements.now (pairs c.in_ok-files.files) c.in_ok-files.ensures.exact))
+    ∙ ap (λ text. c.args.out.now.items ++ text) (scene-told head c.args.elements.now (pairs c.in_ok-files.files)
+    c.in_ok-files.ensures.exact))
 
 pub returns-clause-nests : goal.returns-clause-nests
 returns-clause-nests c =
-    let head : Heading = record { source = c.head.inside.source; app_state = c.head.inside.app_state; files = c.head.inside.files } in
+    let head : Heading =
+    record { source = c.head.inside.source; app_state = c.head.inside.app_state; files = c.head.inside.files } in
     subst (λ (h : Heading). IsCompact 128 (scene_text h c.args.elements.now)) c.head.view_is
     (subst (IsCompact 128) (scene-told head c.args.elements.now (pairs c.in_ok-files.files) c.in_ok-files.ensures.exact)
-    (scene-compact head c.args.elements.now (pairs c.in_ok-files.files) c.in_ok-push_front.ensures.nests c.in_ok-push_elements.ensures.nest
+    (scene-compact head c.args.elements.now (pairs c.in_ok-files.files) c.in_ok-push_front.ensures.nests
+    c.in_ok-push_elements.ensures.nest
     c.in_ok-push_back.ensures.settings c.in_ok-push_back.ensures.files))

@@ -14,7 +14,8 @@ use Rattle.scene_file.proofs.SceneTexts.{scene-written, scene-told, scene-compac
 use Rattle.scene_file.proofs.printing.push_scene_lines.Goals as goal
 
 -- all of a compact text is laid out
-laid : {limit : ℕ} (standing : Standing) (text written : List ℕ) → IsCompact limit text → IsLaidOutSoFar standing text written → IsLaidOut 0 text written
+laid : {limit : ℕ} (standing : Standing) (text written : List ℕ) → IsCompact limit text
+    → IsLaidOutSoFar standing text written → IsLaidOut 0 text written
 laid standing text written v so_far = record {
   tree = v.tree;
   good = v.good;
@@ -30,7 +31,8 @@ push_back-requires-clause-settings_nest c = c.head.invariant.nest
 
 pub returns : goal.returns
 returns c =
-    let head : Heading = record { source = c.head.inside.source; app_state = c.head.inside.app_state; files = c.head.inside.files } in
+    let head : Heading =
+    record { source = c.head.inside.source; app_state = c.head.inside.app_state; files = c.head.inside.files } in
     let elements = c.args.elements.now in
     let files = pairs c.in_ok-referred.referred in
     let front = c.as_slice.result.now in
@@ -39,13 +41,17 @@ returns c =
     let told = scene-told head elements files c.in_ok-referred.ensures.exact in
     let same : done ≡ scene_text head elements =
     scene-written head elements files [] front made done
-    (c.as_slice.ensures.value ∙ c.in_ok-push_front.ensures.text ∙ ap (λ (x : List ℕ). x ++ front_of head.source) c.new-piece.ensures.items) refl
-    (ap (λ x. made ++ x) (c.as_slice-2.ensures.value ∙ c.in_ok-push_back.ensures.text ∙ ap (λ (x : List ℕ). x ++ text_behind_elements (pairs head.app_state) files) c.clear.ensures.items))
+    (c.as_slice.ensures.value ∙ c.in_ok-push_front.ensures.text
+    ∙ ap (λ (x : List ℕ). x ++ front_of head.source) c.new-piece.ensures.items) refl
+    (ap (λ x. made ++ x) (c.as_slice-2.ensures.value ∙ c.in_ok-push_back.ensures.text
+    ∙ ap (λ (x : List ℕ). x ++ text_behind_elements (pairs head.app_state) files) c.clear.ensures.items))
     ∙ told in
     let compact : IsCompact 128 (scene_text head elements) =
     subst (IsCompact 128) told
-    (scene-compact head elements files c.in_ok-push_front.ensures.nests c.in_ok-push_element_lines.ensures.nest c.in_ok-push_back.ensures.settings c.in_ok-push_back.ensures.files) in
-    let begun = c.in_ok-push.ensures.ok [] (subst (IsLaidOutSoFar c.new-lines.result []) (sym c.requires) c.new-lines.ensures) in
+    (scene-compact head elements files c.in_ok-push_front.ensures.nests c.in_ok-push_element_lines.ensures.nest
+    c.in_ok-push_back.ensures.settings c.in_ok-push_back.ensures.files) in
+    let begun = c.in_ok-push.ensures.ok [] (subst (IsLaidOutSoFar c.new-lines.result []) (sym c.requires)
+    c.new-lines.ensures) in
     let listed = c.in_ok-push_element_lines.ensures.laid_out front begun in
     on_ok_weaker c.push-2.result
     (λ each. subst (λ (h : Heading). IsLaidOut 0 (scene_text h elements) c.push-2.new.out.items) c.head.view_is

@@ -5,4 +5,5 @@ use Rattle.elem.specs.Texts.{element_text}
 use Rattle.scene_file.proofs.printing.push_stored.Given as goal
 
 abbrev pub invariant-loop-i : goal.invariant-loop-i
-invariant-loop-i l = l.out.items ≡ l.initial.out.items ++ join_with_byte 44 (map element_text (take l.i l.store.elements))
+invariant-loop-i l =
+    l.out.items ≡ l.initial.out.items ++ join_with_byte 44 (map element_text (take l.i l.store.elements))

@@ -18,10 +18,13 @@ push_back-requires-clause-files_distinct c = rising_distinct (pairs c.in_ok-file
 
 pub returns-clause-exact : goal.returns-clause-exact
 returns-clause-exact c =
-    let head : Heading = record { source = c.head.inside.source; app_state = c.head.inside.app_state; files = c.head.inside.files } in
+    let head : Heading =
+    record { source = c.head.inside.source; app_state = c.head.inside.app_state; files = c.head.inside.files } in
     subst (λ (h : Heading). c.from_vec.result ≡ state_text h c.args.store.now.elements) c.head.view_is
     (c.from_vec.ensures
-    ∙ scene-written head c.args.store.now.elements (pairs c.in_ok-files.files) c.in_ok-state.state.items c.push_front.new.out.items c.push_stored.new.out.items c.push_back.new.out.items
+    ∙ scene-written head c.args.store.now.elements (pairs c.in_ok-files.files) c.in_ok-state.state.items
+    c.push_front.new.out.items c.push_stored.new.out.items c.push_back.new.out.items
     c.in_ok-push_front.ensures.text c.in_ok-push_stored.ensures c.in_ok-push_back.ensures.text
-    ∙ ap (λ start. start ++ object_text (scene_members head c.args.store.now.elements (pairs c.in_ok-files.files))) c.in_ok-state.ensures.items
+    ∙ ap (λ start. start ++ object_text (scene_members head c.args.store.now.elements (pairs c.in_ok-files.files)))
+    c.in_ok-state.ensures.items
     ∙ state-told head c.args.store.now.elements (pairs c.in_ok-files.files) c.in_ok-files.ensures.exact)

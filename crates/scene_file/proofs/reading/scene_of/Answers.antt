@@ -16,15 +16,20 @@ pub returns-then-not-has_value-clause-fault : goal.returns-then-not-has_value-cl
 unfolding quote
 returns-then-not-has_value-clause-fault c = λ fault e.
     let t = rw c.in-Some.is at c.in_ok-found.ensures.taken in
-    subst (IsSceneFault c.args.value.now) (fault-same _ NotScene fault e)
-    (t.members, t.object, λ kind. both_ways _ refl (c.if-not-has_value.ensures.1 (t.others (codes "type") refl ∙ kind.1)))
+    subst (IsSceneFault c.args.value.now) (fault-same _ NotScene fault e) (
+      t.members,
+      t.object,
+      λ kind. both_ways _ refl (c.if-not-has_value.ensures.1 (t.others (codes "type") refl
+          ∙ kind.1)),
+    )
 
 pub returns-in_default-given-clause-fault : goal.returns-in_default-given-clause-fault
 unfolding quote
 returns-in_default-given-clause-fault c = λ fault e.
     let t = rw c.in-Some.is at c.in_ok-found.ensures.taken in
     let kind = is-scene t.members (sym (t.others (codes "type") refl) ∙ c.if-not-has_value.ensures.0 refl) in
-    let lacks = subst (AreItemsRead (value_unless_null (codes "elements") t.members)) c.in_default-given.is t.elements in
+    let lacks =
+    subst (AreItemsRead (value_unless_null (codes "elements") t.members)) c.in_default-given.is t.elements in
     subst (IsSceneFault c.args.value.now) (fault-same _ Elements fault e) (t.members, t.object, kind, lacks)
 
 pub returns-in_default-2-clause-fault : goal.returns-in_default-2-clause-fault
@@ -36,8 +41,14 @@ returns-in_default-2-clause-fault c = λ fault e.
     let none : c.in_ok-settings.field-0 ≡ None = cc in
     let lacks = MatchOption-at_none _ _ none c.in_ok-settings.ensures in
     let same = given-same (codes "appState") (pairs c.in-Some.found) t.members (t.others (codes "appState") refl) in
-    subst (IsSceneFault c.args.value.now) (fault-same _ AppState fault e)
-    (t.members, t.object, kind, (items.0, items.1), subst (λ given. (others : List Pair) → HasMembers given others → ⊥) same lacks)
+    subst (IsSceneFault c.args.value.now) (fault-same _ AppState fault e) (
+      t.members,
+      t.object,
+      kind,
+      (items.0, items.1),
+      subst (λ given. (others : List Pair) → HasMembers given others
+          → ⊥) same lacks,
+    )
 
 pub returns-in_default-3-clause-fault : goal.returns-in_default-3-clause-fault
 unfolding quote
@@ -45,13 +56,20 @@ returns-in_default-3-clause-fault c = λ fault e.
     let t = rw c.in-Some.is at c.in_ok-found.ensures.taken in
     let kind = is-scene t.members (sym (t.others (codes "type") refl) ∙ c.if-not-has_value.ensures.0 refl) in
     let items = subst (AreItemsRead (value_unless_null (codes "elements") t.members)) c.in-Some-given.is t.elements in
-    let settings = subst (λ given. HasMembers given (pairs c.in-Some-2.settings)) (given-same (codes "appState") (pairs c.in-Some.found) t.members (t.others (codes "appState") refl))
+    let settings = subst (λ given. HasMembers given (pairs c.in-Some-2.settings))
+    (given-same (codes "appState") (pairs c.in-Some.found) t.members (t.others (codes "appState") refl))
     (MatchOption-at_some _ _ c.in-Some-2.settings c.in-Some-2.is c.in_ok-settings.ensures) in
     let none : c.in_ok-entries.field-0 ≡ None = cc in
     let lacks = MatchOption-at_none _ _ none c.in_ok-entries.ensures in
     let same = given-same (codes "files") (pairs c.in-Some.found) t.members (t.others (codes "files") refl) in
-    subst (IsSceneFault c.args.value.now) (fault-same _ Files fault e)
-    (t.members, t.object, kind, (items.0, items.1), (pairs c.in-Some-2.settings, settings), subst (λ given. (others : List Pair) → HasMembers given others → ⊥) same lacks)
+    subst (IsSceneFault c.args.value.now) (fault-same _ Files fault e) (
+      t.members,
+      t.object,
+      kind,
+      (items.0, items.1),
+      (pairs c.in-Some-2.settings, settings),
+      subst (λ given. (others : List Pair) → HasMembers given others → ⊥) same lacks,
+    )
 
 pub returns-in-Err-clause-fault : goal.returns-in-Err-clause-fault
 unfolding quote
@@ -59,13 +77,21 @@ returns-in-Err-clause-fault c = λ fault e.
     let t = rw c.in-Some.is at c.in_ok-found.ensures.taken in
     let kind = is-scene t.members (sym (t.others (codes "type") refl) ∙ c.if-not-has_value.ensures.0 refl) in
     let items = subst (AreItemsRead (value_unless_null (codes "elements") t.members)) c.in-Some-given.is t.elements in
-    let settings = subst (λ given. HasMembers given (pairs c.in-Some-2.settings)) (given-same (codes "appState") (pairs c.in-Some.found) t.members (t.others (codes "appState") refl))
+    let settings = subst (λ given. HasMembers given (pairs c.in-Some-2.settings))
+    (given-same (codes "appState") (pairs c.in-Some.found) t.members (t.others (codes "appState") refl))
     (MatchOption-at_some _ _ c.in-Some-2.settings c.in-Some-2.is c.in_ok-settings.ensures) in
-    let entries = subst (λ given. HasMembers given (pairs c.in-Some-3.entries)) (given-same (codes "files") (pairs c.in-Some.found) t.members (t.others (codes "files") refl))
+    let entries = subst (λ given. HasMembers given (pairs c.in-Some-3.entries))
+    (given-same (codes "files") (pairs c.in-Some.found) t.members (t.others (codes "files") refl))
     (MatchOption-at_some _ _ c.in-Some-3.entries c.in-Some-3.is c.in_ok-entries.ensures) in
     let faulty = subst (HaveCome items.0) c.in-Err.is items.2 in
-    subst (IsSceneFault c.args.value.now) (fault-same _ (Element c.in-Err.faulty.place c.in-Err.faulty.fault) fault e)
-    (t.members, t.object, kind, (items.0, items.1, faulty), (pairs c.in-Some-2.settings, settings), (pairs c.in-Some-3.entries, entries))
+    subst (IsSceneFault c.args.value.now) (fault-same _ (Element c.in-Err.faulty.place c.in-Err.faulty.fault) fault e) (
+      t.members,
+      t.object,
+      kind,
+      (items.0, items.1, faulty),
+      (pairs c.in-Some-2.settings, settings),
+      (pairs c.in-Some-3.entries, entries),
+    )
 
 pub returns-clause-scene : goal.returns-clause-scene
 unfolding quote

@@ -13,16 +13,20 @@ use Rattle.scene_json.proofs.build.raw_object.Goals.{In_ok-push-2}
 pub loop-i-preserved : goal.loop-i-preserved
 loop-i-preserved c =
     let here : c.loop-i.i < length c.as_slice-member-items.result.now = omega arith in
-    members-step (pairs c.as_slice-member-items.result.now) (pair_of c.member-item.result) c.loop-i.i c.loop-i.out.items c.push_comma.new.out.items c.push_member.new.out.items (simp length-map here)
-    (ap pair_of c.member-item.is ∙ sym (get_or-map pair_of c.as_slice-member-items.result.now c.loop-i.i c.member-item.result _ here))
+    members-step (pairs c.as_slice-member-items.result.now) (pair_of c.member-item.result) c.loop-i.i c.loop-i.out.items
+    c.push_comma.new.out.items c.push_member.new.out.items (simp length-map here)
+    (ap pair_of c.member-item.is
+    ∙ sym (get_or-map pair_of c.as_slice-member-items.result.now c.loop-i.i c.member-item.result _ here))
     c.in_ok-push_member.ensures.utf8 c.loop-i.invariant c.in_ok-push_comma.ensures.ok c.in_ok-push_member.ensures.ok
 
 written : (c : In_ok-push-2) → c.push-2.new.self.items ≡ object_text (pairs c.args.members.now)
 written c =
     let past : length (pairs c.as_slice-member-items.result.now) ≤ c.loop-i.i = simp length-map (omega arith) in
-    rw (← c.as_slice-member-items.ensures) (object-written (pairs c.as_slice-member-items.result.now) c.loop-i.i _ _ past c.loop-i.invariant.text c.in_ok-push-2.ensures.items)
+    rw (← c.as_slice-member-items.ensures) (object-written (pairs c.as_slice-member-items.result.now) c.loop-i.i _ _
+    past c.loop-i.invariant.text c.in_ok-push-2.ensures.items)
 
-compact : (c : In_ok-push-2) (limit : ℕ) → All (λ (member : Member). IsCompact limit member.value) c.args.members.now → IsCompact (limit + 1) (object_text (pairs c.args.members.now))
+compact : (c : In_ok-push-2) (limit : ℕ) → All (λ (member : Member). IsCompact limit member.value) c.args.members.now
+    → IsCompact (limit + 1) (object_text (pairs c.args.members.now))
 compact c limit each =
     let past : length (pairs c.as_slice-member-items.result.now) ≤ c.loop-i.i = simp length-map (omega arith) in
     object-compact limit (pairs c.args.members.now)
@@ -38,4 +42,6 @@ returns-clause-text c = rw (← written (goal.at.returns-clause-text c).In_ok-pu
 pub returns-clause-nests : goal.returns-clause-nests
 returns-clause-nests c = λ limit each.
     let done = (goal.at.returns-clause-nests c).In_ok-push-2 in
-    IfOk-weaker c.from_compact.result _ (IsCompact (limit + 1)) (λ raw same. subst (IsCompact (limit + 1)) (sym (same ∙ written done)) (compact done limit each)) c.from_compact.ensures
+    IfOk-weaker c.from_compact.result _ (IsCompact (limit + 1))
+    (λ raw same. subst (IsCompact (limit + 1)) (sym (same ∙ written done)) (compact done limit each))
+    c.from_compact.ensures

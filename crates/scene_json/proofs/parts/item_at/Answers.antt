@@ -13,20 +13,34 @@ bounds-bytes-at c = rw c.as_bytes-bytes.ensures.value (inside c.args.array.now c
 
 pub push_members-requires : goal.push_members-requires
 push_members-requires c =
-    let object = object-here c.args.array.now c.args.at c.requires.2 (rw (← c.as_bytes-bytes.ensures.value) c.if-bytes-at-eq123.true) in
-    (object.0, c.requires.1, object-opened c.args.array.now c.args.at object.0 c.requires.1 object.1 (c.requires.2.parts ∙ ap (λ item. item ++ c.requires.1) object.2))
+    let object = object-here c.args.array.now c.args.at c.requires.2
+    (rw (← c.as_bytes-bytes.ensures.value) c.if-bytes-at-eq123.true) in (
+      object.0,
+      c.requires.1,
+      object-opened c.args.array.now c.args.at object.0 c.requires.1 object.1 (c.requires.2.parts
+          ∙ ap (λ item. item ++ c.requires.1) object.2),
+    )
 
 pub returns-then-bytes-at-eq123-clause-item : goal.returns-then-bytes-at-eq123-clause-item
 returns-then-bytes-at-eq123-clause-item c =
     λ item rest here.
-    let object = object-here c.args.array.now c.args.at here (rw (← c.as_bytes-bytes.ensures.value) c.if-bytes-at-eq123.true) in
-    let f = c.in_ok-end.ensures.found object.0 rest (object-opened c.args.array.now c.args.at object.0 rest object.1 (here.parts ∙ ap (λ item. item ++ rest) object.2)) in
+    let object =
+    object-here c.args.array.now c.args.at here (rw (← c.as_bytes-bytes.ensures.value) c.if-bytes-at-eq123.true) in
+    let f = c.in_ok-end.ensures.found object.0 rest (object-opened c.args.array.now c.args.at object.0 rest object.1
+    (here.parts ∙ ap (λ item. item ++ rest) object.2)) in
     let ended = all-ended f.2 in
-    let all = ap pairs c.from_vec.ensures ∙ f.1 ∙ ap (λ ms. pairs ms ++ f.0) c.in_ok-members.ensures.items ∙ ended.0 in
-    ((subst (AreMembers 127) (sym all) object.1, object.2 ∙ ap object_text (sym all)), drop-after c.args.array.now c.in_ok-end.end ended.1)
+    let all =
+    ap pairs c.from_vec.ensures ∙ f.1 ∙ ap (λ ms. pairs ms ++ f.0) c.in_ok-members.ensures.items ∙ ended.0 in (
+      (subst (AreMembers 127) (sym all) object.1, object.2 ∙ ap object_text (sym all)),
+      drop-after c.args.array.now c.in_ok-end.end ended.1,
+    )
 
 pub returns-clause-item : goal.returns-clause-item
 returns-clause-item c =
     λ item rest here.
-    let ends : EndsAt c.args.array.now c.args.at c.next_end.result = rw (← c.as_bytes-bytes.ensures.value) c.next_end.ensures.end in
-    (λ members e. c.if-bytes-at-eq123.false (rw c.as_bytes-bytes.ensures.value (object-first c.args.array.now c.args.at here members e)), (ends item rest here).0)
+    let ends : EndsAt c.args.array.now c.args.at c.next_end.result =
+    rw (← c.as_bytes-bytes.ensures.value) c.next_end.ensures.end in (
+      λ members e. c.if-bytes-at-eq123.false
+          (rw c.as_bytes-bytes.ensures.value (object-first c.args.array.now c.args.at here members e)),
+      (ends item rest here).0,
+    )

@@ -10,24 +10,29 @@ use Rattle.scene_json.proofs.parts.members.Goals.{After-found-1}
 
 pub returns-then-not-begins_with-clause-shape : goal.returns-then-not-begins_with-clause-shape
 returns-then-not-begins_with-clause-shape c =
-    λ _ others e. c.if-not-begins_with.ensures.no refl (object-starts others).0 (c.as_bytes.ensures.value ∙ e ∙ (object-starts others).1)
+    λ _ others e. c.if-not-begins_with.ensures.no refl (object-starts others).0 (c.as_bytes.ensures.value ∙ e
+    ∙ (object-starts others).1)
 
 whole : (c : After-found-1) → (all : List Pair) × AreMembers 127 all × (c.args.value.now ≡ object_text all)
-whole c = form-membered 128 c.args.value.now (Value-Form c.as_bytes.ensures.compact) (starts-same 123 c.as_bytes.ensures.value (c.if-not-begins_with.ensures.yes refl))
+whole c = form-membered 128 c.args.value.now (Value-Form c.as_bytes.ensures.compact)
+    (starts-same 123 c.as_bytes.ensures.value (c.if-not-begins_with.ensures.yes refl))
 
-opened : (value : List ℕ) (all : List Pair) → AreMembers 127 all → value ≡ object_text all → StandHere (drop 1 value) all []
+opened : (value : List ℕ) (all : List Pair) → AreMembers 127 all → value ≡ object_text all
+    → StandHere (drop 1 value) all []
 opened value all are e = object-opened value 0 all [] are (e ∙ sym (append-nil (object_text all)))
 
 pub push_members-requires : goal.push_members-requires
 push_members-requires c = let w = whole c in (w.0, [], opened c.args.value.now w.0 w.1 w.2)
 
-found : (c : goal.After-from_vec) (all : List Pair) → AreMembers 127 all → c.args.value.now ≡ object_text all → pairs c.from_vec.result ≡ all
+found : (c : goal.After-from_vec) (all : List Pair) → AreMembers 127 all → c.args.value.now ≡ object_text all
+    → pairs c.from_vec.result ≡ all
 found c all are e =
     let f = c.in_ok-push_members.ensures.found all [] (opened c.args.value.now all are e) in
     ap pairs c.from_vec.ensures ∙ f.1 ∙ ap (λ ms. pairs ms ++ f.0) c.new-found.ensures.items ∙ (all-ended f.2).0
 
 pub returns-clause-spelled : goal.returns-clause-spelled
-returns-clause-spelled c = let w = whole (goal.at.returns-clause-spelled c).After-found-1 in w.2 ∙ ap object_text (sym (found c w.0 w.1 w.2))
+returns-clause-spelled c =
+    let w = whole (goal.at.returns-clause-spelled c).After-found-1 in w.2 ∙ ap object_text (sym (found c w.0 w.1 w.2))
 
 pub returns-clause-kept : goal.returns-clause-kept
 returns-clause-kept c = let w = whole (goal.at.returns-clause-kept c).After-found-1 in rw (found c w.0 w.1 w.2) w.1

@@ -7,6 +7,8 @@ use Rattle.scene_json.proofs.parts.next_end.Goals as goal
 pub returns-clause-end : goal.returns-clause-end
 returns-clause-end c text rest here =
     let bytes = c.args.bytes.now in
-    let whole = take_all (length bytes - c.args.at) (drop c.args.at bytes) (omega (arith, length-drop c.args.at bytes)) in
-    let found = c.after_value.ensures.found text rest (subst (λ (x : List ℕ). Compacted x text rest) (sym whole) here) in
+    let whole =
+    take_all (length bytes - c.args.at) (drop c.args.at bytes) (omega (arith, length-drop c.args.at bytes)) in
+    let found =
+    c.after_value.ensures.found text rest (subst (λ (x : List ℕ). Compacted x text rest) (sym whole) here) in
     between-is bytes text rest c.args.at _ c.requires (ap (λ (x : List ℕ). length bytes - length x) found) here.parts

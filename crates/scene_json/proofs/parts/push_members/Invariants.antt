@@ -8,7 +8,8 @@ use Rattle.scene_json.proofs.parts.push_members.Given as goal
 abbrev pub invariant-loop-at : goal.invariant-loop-at
 invariant-loop-at l = record {
   past : l.start ≤ l.at;
-  left : (all : List Member) (rest : List ℕ) → StandHere (drop l.start l.value) all rest → ArePassed (option_copied l.stop) all (pairs l.fn.found.items) (pairs l.found.items) rest (drop l.at l.value);
+  left : (all : List Member) (rest : List ℕ) → StandHere (drop l.start l.value) all rest
+      → ArePassed (option_copied l.stop) all (pairs l.fn.found.items) (pairs l.found.items) rest (drop l.at l.value);
 }
 
 abbrev pub decreases-loop-at : goal.decreases-loop-at

@@ -7,6 +7,8 @@ use Rattle.session.proofs.clashes.clashes_among.Given as goal
 
 abbrev pub invariant-loop-message : goal.invariant-loop-message
 invariant-loop-message l = record {
-  counted : HaveClashes [] (l.opening ++ flat_map (λ (message : List ElementValue). message) (take l.message-index l.messages.items)) l.count;
-  noted : l.clash ≡ firsts_of (l.opening ++ flat_map (λ (message : List ElementValue). message) (take l.message-index l.messages.items));
+  counted : HaveClashes [] (l.opening ++ flat_map (λ (message : List ElementValue). message)
+      (take l.message-index l.messages.items)) l.count;
+  noted : l.clash ≡ firsts_of (l.opening ++ flat_map (λ (message : List ElementValue). message)
+      (take l.message-index l.messages.items));
 }

@@ -16,9 +16,12 @@ loop-e-preserved c =
     elim c.if-branch.branch [ then-branch w ↦ omega (arith, w.count-is) | else-branch w ↦ omega (arith, w.count-is) ] in
     record {
       counted = λ before was.
-          counted-step before es c.loop-e.e-index c.e-item.result inside c.e-item.is c.loop-e.clash c.in_ok-note.field-0 c.loop-e.count c.if-branch.count
-          (c.loop-e.invariant.noted before was) (c.loop-e.invariant.counted before was) c.in_ok-note.ensures.clash counted;
+          counted-step before es c.loop-e.e-index c.e-item.result inside c.e-item.is c.loop-e.clash c.in_ok-note.field-0
+          c.loop-e.count c.if-branch.count
+          (c.loop-e.invariant.noted before was) (c.loop-e.invariant.counted before was) c.in_ok-note.ensures.clash
+          counted;
       noted = λ before was.
-          firsts_with-step before es c.loop-e.e-index c.e-item.result inside c.e-item.is c.loop-e.clash c.note.new.self (c.loop-e.invariant.noted before was) c.in_ok-note.ensures.noted;
+          firsts_with-step before es c.loop-e.e-index c.e-item.result inside c.e-item.is c.loop-e.clash c.note.new.self
+          (c.loop-e.invariant.noted before was) c.in_ok-note.ensures.noted;
       within = few;
     }

@@ -7,7 +7,9 @@ use Rattle.session.proofs.clashes.note_all.Given as goal
 
 abbrev pub invariant-loop-e : goal.invariant-loop-e
 invariant-loop-e l = record {
-  counted : (before : List ElementValue) → l.initial.clash ≡ firsts_of before → HaveClashes before (take l.e-index l.elements) l.count;
-  noted : (before : List ElementValue) → l.initial.clash ≡ firsts_of before → l.clash ≡ firsts_of (before ++ take l.e-index l.elements);
+  counted : (before : List ElementValue) → l.initial.clash ≡ firsts_of before
+      → HaveClashes before (take l.e-index l.elements) l.count;
+  noted : (before : List ElementValue) → l.initial.clash ≡ firsts_of before
+      → l.clash ≡ firsts_of (before ++ take l.e-index l.elements);
   within : l.count ≤ l.e-index;
 }

@@ -10,4 +10,5 @@ returns-clause-stored c = same-stored
 
 pub returns-clause-shown : goal.returns-clause-shown
 returns-clause-shown c = λ session count s other among also are same.
-    ap (λ stored. scene_text (head_of session) (shown (live_elements stored))) (same-stored session count s other among also are same)
+    ap (λ stored. scene_text (head_of session) (shown (live_elements stored)))
+    (same-stored session count s other among also are same)

@@ -8,7 +8,8 @@ use Rattle.session.proofs.reporting.replica_of.Goals as goal
 
 pub returns : goal.returns
 returns c = λ s stands.
-    let live : c.in_ok-view.view ≡ live_elements s.state.stored = c.in_ok-view.ensures ∙ ap live_elements (c.store-store.ensures ∙ stands.replica.stored) in
+    let live : c.in_ok-view.view ≡ live_elements s.state.stored =
+    c.in_ok-view.ensures ∙ ap live_elements (c.store-store.ensures ∙ stands.replica.stored) in
     record {
       replica = stands.replica;
       scene = c.in_ok-scene.ensures.text ∙ ap (λ elements. scene_text c.args.head.now (shown elements)) live;

@@ -8,5 +8,6 @@ returns c = λ w stands. record {
   replicas = c.in_ok-replicas_of.ensures w.seats stands.seats;
   messages = c.len.ensures ∙ c.args.world.messages.ok.0 ∙ ap length stands.messages;
   refused = c.from_vec.ensures ∙ stands.refused;
-  clashes = subst (λ es. HaveClashes [] es c.in_ok-clashes.clashes) (λ i. c.opening_elements.ensures i ++ flat (stands.messages i)) c.in_ok-clashes.ensures;
+  clashes = subst (λ es. HaveClashes [] es c.in_ok-clashes.clashes) (λ i. c.opening_elements.ensures i
+      ++ flat (stands.messages i)) c.in_ok-clashes.ensures;
 }

@@ -9,10 +9,12 @@ pub loop-preserved : goal.loop-preserved
 loop-preserved c =
     let seat = delivered c.args.elements.now fresh in
     let n = c.loop.counter in
-    let more : vec_len c.push.new.self ≡ c.loop.counter + 1 = omega (arith, c.in_ok-push.ensures.len, c.loop.invariant.long) in
+    let more : vec_len c.push.new.self ≡ c.loop.counter + 1 =
+    omega (arith, c.in_ok-push.ensures.len, c.loop.invariant.long) in
     record {
       stand = subst (SeatsStandFor c.push.new.self.items) (replicate_more n seat)
           (subst (λ hs. SeatsStandFor hs (replicate n seat ++ seat ∷ [])) (sym c.in_ok-push.ensures.items)
-          (zip-push SeatStandsFor c.loop.seats.items (replicate n seat) c.deliver.new.self seat c.loop.invariant.stand (c.in_ok-deliver.ensures fresh c.new-seat.ensures)));
+          (zip-push SeatStandsFor c.loop.seats.items (replicate n seat) c.deliver.new.self seat c.loop.invariant.stand
+          (c.in_ok-deliver.ensures fresh c.new-seat.ensures)));
       long = more;
     }

@@ -2,7 +2,8 @@ use Rattle.session_laws.proofs.Showing.{stores-same, shows-same, shows-rising, s
 use Rattle.session_laws.proofs.laws.replicas_converge.Goals as goal
 
 pub returns-clause-stored : goal.returns-clause-stored
-returns-clause-stored c = λ session count s other is among also same. stores-same session is count s other among also same
+returns-clause-stored c =
+    λ session count s other is among also same. stores-same session is count s other among also same
 
 pub returns-clause-shown : goal.returns-clause-shown
 returns-clause-shown c = λ session count s other is among also same. shows-same session is count s other among also same

@@ -6,10 +6,12 @@ returns-clause-back c = λ session count at n changes undos rest is here among s
     back-after session is count at among changes undos rest n here still are are'
 
 pub returns-clause-captured : goal.returns-clause-captured
-returns-clause-captured c = λ session count at n changes rest is here among are some. (captured-after session is count at among changes rest n here are some).0
+returns-clause-captured c = λ session count at n changes rest is here among are some.
+    (captured-after session is count at among changes rest n here are some).0
 
 pub returns-clause-none : goal.returns-clause-none
-returns-clause-none c = λ session count at n changes rest is here among are some. (captured-after session is count at among changes rest n here are some).1
+returns-clause-none c = λ session count at n changes rest is here among are some.
+    (captured-after session is count at among changes rest n here are some).1
 
 pub returns-clause-found : goal.returns-clause-found
 returns-clause-found c = λ session count at n j changes undos rest is here among still are are' less.

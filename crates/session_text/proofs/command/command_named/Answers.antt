@@ -12,7 +12,8 @@ returns-in_ok-ids-in-Delete c = rw c.in-Delete.is (went_on c.in_ok-ids-in-Delete
 
 pub returns-in_err-arrow-in-Unbind : goal.returns-in_err-arrow-in-Unbind
 returns-in_err-arrow-in-Unbind c =
-    let p = err_from_is_err_and c.from_residual-in_err-arrow-in-Unbind.result c.from_residual-in_err-arrow-in-Unbind.ensures.1 in
+    let p = err_from_is_err_and c.from_residual-in_err-arrow-in-Unbind.result
+    c.from_residual-in_err-arrow-in-Unbind.ensures.1 in
     rw (p.1, p.2) (rw c.in-Unbind.is (stopped c.in_err-arrow-in-Unbind.ensures))
 
 pub returns-in_ok-arrow-in-Unbind : goal.returns-in_ok-arrow-in-Unbind
@@ -20,7 +21,8 @@ returns-in_ok-arrow-in-Unbind c = rw c.in-Unbind.is (went_on c.in_ok-arrow-in-Un
 
 pub returns-in_err-text-in-Unlabel : goal.returns-in_err-text-in-Unlabel
 returns-in_err-text-in-Unlabel c =
-    let p = err_from_is_err_and c.from_residual-in_err-text-in-Unlabel.result c.from_residual-in_err-text-in-Unlabel.ensures.1 in
+    let p = err_from_is_err_and c.from_residual-in_err-text-in-Unlabel.result
+    c.from_residual-in_err-text-in-Unlabel.ensures.1 in
     rw (p.1, p.2) (rw c.in-Unlabel.is (stopped c.in_err-text-in-Unlabel.ensures))
 
 pub returns-in_ok-text-in-Unlabel : goal.returns-in_ok-text-in-Unlabel
@@ -28,7 +30,8 @@ returns-in_ok-text-in-Unlabel c = rw c.in-Unlabel.is (went_on c.in_ok-text-in-Un
 
 pub returns-in_err-ids-in-Frame : goal.returns-in_err-ids-in-Frame
 returns-in_err-ids-in-Frame c =
-    let p = err_from_is_err_and c.from_residual-in_err-ids-in-Frame.result c.from_residual-in_err-ids-in-Frame.ensures.1 in
+    let p =
+    err_from_is_err_and c.from_residual-in_err-ids-in-Frame.result c.from_residual-in_err-ids-in-Frame.ensures.1 in
     rw (p.1, p.2) (rw c.in-Frame.is (stopped c.in_err-ids-in-Frame.ensures))
 
 pub returns-in_ok-ids-in-Frame : goal.returns-in_ok-ids-in-Frame
@@ -36,7 +39,8 @@ returns-in_ok-ids-in-Frame c = rw c.in-Frame.is (went_on c.in_ok-ids-in-Frame.en
 
 pub returns-in_err-ids-in-Unframe : goal.returns-in_err-ids-in-Unframe
 returns-in_err-ids-in-Unframe c =
-    let p = err_from_is_err_and c.from_residual-in_err-ids-in-Unframe.result c.from_residual-in_err-ids-in-Unframe.ensures.1 in
+    let p = err_from_is_err_and c.from_residual-in_err-ids-in-Unframe.result
+    c.from_residual-in_err-ids-in-Unframe.ensures.1 in
     rw (p.1, p.2) (rw c.in-Unframe.is (stopped c.in_err-ids-in-Unframe.ensures))
 
 pub returns-in_ok-ids-in-Unframe : goal.returns-in_ok-ids-in-Unframe
@@ -44,7 +48,8 @@ returns-in_ok-ids-in-Unframe c = rw c.in-Unframe.is (went_on c.in_ok-ids-in-Unfr
 
 pub returns-in_err-ids-in-Group : goal.returns-in_err-ids-in-Group
 returns-in_err-ids-in-Group c =
-    let p = err_from_is_err_and c.from_residual-in_err-ids-in-Group.result c.from_residual-in_err-ids-in-Group.ensures.1 in
+    let p =
+    err_from_is_err_and c.from_residual-in_err-ids-in-Group.result c.from_residual-in_err-ids-in-Group.ensures.1 in
     rw (p.1, p.2) (rw c.in-Group.is (stopped c.in_err-ids-in-Group.ensures))
 
 pub returns-in_ok-ids-in-Group : goal.returns-in_ok-ids-in-Group
@@ -52,7 +57,8 @@ returns-in_ok-ids-in-Group c = rw c.in-Group.is (went_on c.in_ok-ids-in-Group.en
 
 pub returns-in_err-ids-in-Ungroup : goal.returns-in_err-ids-in-Ungroup
 returns-in_err-ids-in-Ungroup c =
-    let p = err_from_is_err_and c.from_residual-in_err-ids-in-Ungroup.result c.from_residual-in_err-ids-in-Ungroup.ensures.1 in
+    let p = err_from_is_err_and c.from_residual-in_err-ids-in-Ungroup.result
+    c.from_residual-in_err-ids-in-Ungroup.ensures.1 in
     rw (p.1, p.2) (rw c.in-Ungroup.is (stopped c.in_err-ids-in-Ungroup.ensures))
 
 pub returns-in_ok-ids-in-Ungroup : goal.returns-in_ok-ids-in-Ungroup

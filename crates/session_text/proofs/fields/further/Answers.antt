@@ -17,9 +17,11 @@ pub returns : goal.returns
 returns c =
     let ws = c.sort_by.new.self.items in
     let up : IsSortedBy lower ws =
-    c.in_ok-sort_by.ensures.sorted lower (ranks_by nat_list_cmp_total (λ (m : Member). m.name)) (answers_always _ _ _ (λ f a r g h. search rules)) in
+    c.in_ok-sort_by.ensures.sorted lower (ranks_by nat_list_cmp_total (λ (m : Member). m.name))
+    (answers_always _ _ _ (λ f a r g h. search rules)) in
     let left : c.retain.new.self.items ≡ kept (bytes_eq (codes "elementId")) c.args.members =
-    filter_same _ (λ (m : Member). not (bytes_eq (codes "elementId") m.name)) _ (λ x b f' k. search rules) _ _ c.retain.ensures.filtered
+    filter_same _ (λ (m : Member). not (bytes_eq (codes "elementId") m.name)) _ (λ x b f' k. search rules) _ _
+    c.retain.ensures.filtered
     ∙ ap (filter (λ (m : Member). not (bytes_eq (codes "elementId") m.name))) c.into_vec-rest.ensures in
     let moved = subst (λ us. IsPermutation us ws) left c.in_ok-sort_by.ensures.permutation in
     subst (AreOthers (bytes_eq (codes "elementId")) (find_in (pairs c.args.members))) (sym c.from_vec.ensures)

@@ -17,5 +17,7 @@ returns c =
     let found = pairs c.in-Some.found in
     let object = MatchOption-at_some _ _ c.in-Some.found c.in-Some.is c.in_ok-found.ensures in
     let none = subst (IsTheOne (IsText (value_at (codes "after") found))) c.in-None.is c.in_ok-id.ensures in
-    no-spot value (λ e. both_ways _ c.if-is.false (c.is.ensures.1 e)) (λ e. both_ways _ c.if-is-2.false (c.is-2.ensures.1 e))
-    (λ id after. none id (subst (λ members. IsText (value_at (codes "after") members) id) (members-once value after.0 found after.1 object) after.2))
+    no-spot value (λ e. both_ways _ c.if-is.false (c.is.ensures.1 e))
+    (λ e. both_ways _ c.if-is-2.false (c.is-2.ensures.1 e))
+    (λ id after. none id (subst (λ members. IsText (value_at (codes "after") members) id)
+    (members-once value after.0 found after.1 object) after.2))

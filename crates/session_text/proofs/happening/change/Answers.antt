@@ -18,4 +18,5 @@ returns-in_err-command c made =
     rw (p.1, p.2) (went_on c.in_ok-at.ensures (went_on c.in_ok-capture.ensures (stopped c.in_err-command.ensures)))
 
 pub returns : goal.returns
-returns c made = went_on c.in_ok-at.ensures (went_on c.in_ok-capture.ensures (went_on c.in_ok-command.ensures given_last))
+returns c made =
+    went_on c.in_ok-at.ensures (went_on c.in_ok-capture.ensures (went_on c.in_ok-command.ensures given_last))

@@ -23,7 +23,8 @@ returns-in_ok-at-in-Hold c = rw c.in-Hold.is (went_on c.in_ok-at-in-Hold.ensures
 
 pub returns-in_err-at-in-Release : goal.returns-in_err-at-in-Release
 returns-in_err-at-in-Release c =
-    let p = err_from_is_err_and c.from_residual-in_err-at-in-Release.result c.from_residual-in_err-at-in-Release.ensures.1 in
+    let p = err_from_is_err_and c.from_residual-in_err-at-in-Release.result
+    c.from_residual-in_err-at-in-Release.ensures.1 in
     rw (p.1, p.2) (rw c.in-Release.is (stopped c.in_err-at-in-Release.ensures))
 
 pub returns-in_ok-at-in-Release : goal.returns-in_ok-at-in-Release

@@ -15,7 +15,8 @@ returns-in_ok-time-in-Undo c = rw c.in-Undo.is (went_on c.in_ok-time-in-Undo.ens
 
 pub returns-in_err-time-in-Redo : goal.returns-in_err-time-in-Redo
 returns-in_err-time-in-Redo c =
-    let p = err_from_is_err_and c.from_residual-in_err-time-in-Redo.result c.from_residual-in_err-time-in-Redo.ensures.1 in
+    let p =
+    err_from_is_err_and c.from_residual-in_err-time-in-Redo.result c.from_residual-in_err-time-in-Redo.ensures.1 in
     rw (p.1, p.2) (rw c.in-Redo.is (stopped c.in_err-time-in-Redo.ensures))
 
 pub returns-in_ok-time-in-Redo : goal.returns-in_ok-time-in-Redo
@@ -23,7 +24,8 @@ returns-in_ok-time-in-Redo c = rw c.in-Redo.is (went_on c.in_ok-time-in-Redo.ens
 
 pub returns-in_err-elements-in-Take : goal.returns-in_err-elements-in-Take
 returns-in_err-elements-in-Take c =
-    let p = err_from_is_err_and c.from_residual-in_err-elements-in-Take.result c.from_residual-in_err-elements-in-Take.ensures.1 in
+    let p = err_from_is_err_and c.from_residual-in_err-elements-in-Take.result
+    c.from_residual-in_err-elements-in-Take.ensures.1 in
     rw (p.1, p.2) (rw c.in-Take.is (stopped c.in_err-elements-in-Take.ensures))
 
 pub returns-in_ok-elements-in-Take : goal.returns-in_ok-elements-in-Take
@@ -31,7 +33,8 @@ returns-in_ok-elements-in-Take c = rw c.in-Take.is (went_on c.in_ok-elements-in-
 
 pub returns-in_err-text-in-Receive : goal.returns-in_err-text-in-Receive
 returns-in_err-text-in-Receive c =
-    let p = err_from_is_err_and c.from_residual-in_err-text-in-Receive.result c.from_residual-in_err-text-in-Receive.ensures.1 in
+    let p = err_from_is_err_and c.from_residual-in_err-text-in-Receive.result
+    c.from_residual-in_err-text-in-Receive.ensures.1 in
     rw (p.1, p.2) (rw c.in-Receive.is (stopped c.in_err-text-in-Receive.ensures))
 
 pub returns-in_ok-text-in-Receive : goal.returns-in_ok-text-in-Receive
@@ -47,7 +50,8 @@ returns-in_ok-id-in-Hold c = rw c.in-Hold.is (went_on c.in_ok-id-in-Hold.ensures
 
 pub returns-in_err-id-in-Release : goal.returns-in_err-id-in-Release
 returns-in_err-id-in-Release c =
-    let p = err_from_is_err_and c.from_residual-in_err-id-in-Release.result c.from_residual-in_err-id-in-Release.ensures.1 in
+    let p = err_from_is_err_and c.from_residual-in_err-id-in-Release.result
+    c.from_residual-in_err-id-in-Release.ensures.1 in
     rw (p.1, p.2) (rw c.in-Release.is (stopped c.in_err-id-in-Release.ensures))
 
 pub returns-in_ok-id-in-Release : goal.returns-in_ok-id-in-Release
@@ -61,7 +65,8 @@ returns-in-State c = rw c.in-State.is given_last
 
 pub returns-in_err-id-in-Stored : goal.returns-in_err-id-in-Stored
 returns-in_err-id-in-Stored c =
-    let p = err_from_is_err_and c.from_residual-in_err-id-in-Stored.result c.from_residual-in_err-id-in-Stored.ensures.1 in
+    let p =
+    err_from_is_err_and c.from_residual-in_err-id-in-Stored.result c.from_residual-in_err-id-in-Stored.ensures.1 in
     rw (p.1, p.2) (rw c.in-Stored.is (stopped c.in_err-id-in-Stored.ensures))
 
 pub returns-in_ok-id-in-Stored : goal.returns-in_ok-id-in-Stored

@@ -5,7 +5,8 @@ use Rattle.session_text.proofs.Readings.{stopped, went_on}
 use Rattle.session_text.proofs.lines.opening_in.Goals as goal
 
 pub returns-in-Some : goal.returns-in-Some
-returns-in-Some c = went_on {x = pairs c.in-Some.found} (record { read = MatchOption-at_some _ _ c.in-Some.found c.in-Some.is c.in_ok-found.ensures }) c.opening_of.ensures
+returns-in-Some c = went_on {x = pairs c.in-Some.found}
+    (record { read = MatchOption-at_some _ _ c.in-Some.found c.in-Some.is c.in_ok-found.ensures }) c.opening_of.ensures
 
 pub returns-in-None : goal.returns-in-None
 returns-in-None c = stopped (record { read = (MatchOption-at_none _ _ c.in-None.is c.in_ok-found.ensures, refl) })

@@ -20,7 +20,9 @@ returns-in_err-seed c =
 pub returns-in_err-scene : goal.returns-in_err-scene
 returns-in_err-scene c =
     let p = err_from_is_err_and c.from_residual-in_err-scene.result c.from_residual-in_err-scene.ensures.1 in
-    rw (p.1, p.2) (went_on c.in_ok-_version.ensures (went_on c.in_ok-number.ensures (went_on c.in_ok-seed.ensures (stopped c.in_err-scene.ensures))))
+    rw (p.1, p.2) (went_on c.in_ok-_version.ensures
+    (went_on c.in_ok-number.ensures (went_on c.in_ok-seed.ensures (stopped c.in_err-scene.ensures))))
 
 pub returns : goal.returns
-returns c = went_on c.in_ok-_version.ensures (went_on c.in_ok-number.ensures (went_on c.in_ok-seed.ensures (went_on c.in_ok-scene.ensures given_last)))
+returns c = went_on c.in_ok-_version.ensures
+    (went_on c.in_ok-number.ensures (went_on c.in_ok-seed.ensures (went_on c.in_ok-scene.ensures given_last)))

@@ -11,7 +11,8 @@ pub returns-clause-fault : goal.returns-clause-fault
 returns-clause-fault c = λ fault same. fault-told (LineText c.args.value.now) _ fault c.line_in.ensures same
 
 pub returns-clause-json : goal.returns-clause-json
-returns-clause-json c = λ found same. line_text-form c.args.value.now found (fault-told (LineText c.args.value.now) _ _ c.line_in.ensures same)
+returns-clause-json c = λ found same. line_text-form c.args.value.now found
+    (fault-told (LineText c.args.value.now) _ _ c.line_in.ensures same)
 
 pub returns-clause-within : goal.returns-clause-within
 returns-clause-within c = ok-told (LineText c.args.value.now) _ _ c.line_in.ensures (line-within c.args.value.now)

@@ -11,7 +11,8 @@ pub returns-clause-fault : goal.returns-clause-fault
 returns-clause-fault c = λ fault same. fault-told (OpeningText c.args.value.now) _ fault c.opening_in.ensures same
 
 pub returns-clause-json : goal.returns-clause-json
-returns-clause-json c = λ found same. opening_text-form c.args.value.now found (fault-told (OpeningText c.args.value.now) _ _ c.opening_in.ensures same)
+returns-clause-json c = λ found same. opening_text-form c.args.value.now found
+    (fault-told (OpeningText c.args.value.now) _ _ c.opening_in.ensures same)
 
 pub returns-clause-kept : goal.returns-clause-kept
 returns-clause-kept c = ok-told (OpeningText c.args.value.now) _ _ c.opening_in.ensures (opening-kept c.args.value.now)

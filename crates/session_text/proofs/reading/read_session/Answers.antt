@@ -11,15 +11,20 @@ returns-then-is_full-clause-fault c fault e =
     let many : SessionFault = TooMany in
     let same : many ≡ fault = cc in
     subst (IsSessionFault c.args.bytes.now) same
-    (too-many c.args.bytes.now c.texts.feed c.texts.at c.texts.invariant.leads (sym c.is_full.ensures ∙ c.if-is_full.true)
-    (more-at c.args.bytes.now c.texts.at c.texts.invariant.within (omega (arith, c.skip_space.ensures, c.texts-test.true))))
+    (too-many c.args.bytes.now c.texts.feed c.texts.at c.texts.invariant.leads (sym c.is_full.ensures
+    ∙ c.if-is_full.true)
+    (more-at c.args.bytes.now c.texts.at c.texts.invariant.within
+    (omega (arith, c.skip_space.ensures, c.texts-test.true))))
 
 pub next_text-requires-in-texts-clause-more : goal.next_text-requires-in-texts-clause-more
 next_text-requires-in-texts-clause-more c =
-    inr (more-at c.args.bytes.now c.texts.at c.texts.invariant.within (omega (arith, c.skip_space.ensures, c.texts-test.true)))
+    inr (more-at c.args.bytes.now c.texts.at c.texts.invariant.within
+    (omega (arith, c.skip_space.ensures, c.texts-test.true)))
 
 pub returns-clause-session : goal.returns-clause-session
 returns-clause-session c =
-    subst (λ (s : Option Session). IfSome s (IsSessionOf c.args.bytes.now)) (sym c.finish.ensures.session ∙ c.in-Some.is)
+    subst (λ (s : Option Session). IfSome s (IsSessionOf c.args.bytes.now)) (sym c.finish.ensures.session
+    ∙ c.in-Some.is)
     (session-read c.args.bytes.now c.texts.feed c.texts.at c.texts.invariant.leads
-    (blank-at c.args.bytes.now c.texts.at c.texts.invariant.within (omega (arith, c.skip_space.ensures, c.texts-test.false))))
+    (blank-at c.args.bytes.now c.texts.at c.texts.invariant.within
+    (omega (arith, c.skip_space.ensures, c.texts-test.false))))

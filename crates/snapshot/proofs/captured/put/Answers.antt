@@ -16,4 +16,6 @@ pub returns-in_ok-insert-in-Err-clause-ok : goal.returns-in_ok-insert-in-Err-cla
 returns-in_ok-insert-in-Err-clause-ok c =
     let elements = c.args.elements.now.items in
     rw c.in_ok-insert-in-Err.ensures.items
-    (put-is elements _ c.args.e c.requires (HasPut-insert elements c.requires c.args.e c.in-Err.i (subst (λ id. IsGapFor elements id c.in-Err.i) c.id.ensures c.in-Err.ensures.absent)))
+    (put-is elements _ c.args.e c.requires
+    (HasPut-insert elements c.requires c.args.e c.in-Err.i
+    (subst (λ id. IsGapFor elements id c.in-Err.i) c.id.ensures c.in-Err.ensures.absent)))

@@ -20,10 +20,13 @@ returns-clause-ok c =
     let old = option_copied c.args.old in
     let new = c.args.new.now in
     let made = c.in_ok-made.made in
-    let captured : option_copied c.find.result ≡ element_of before new.id = c.find.ensures ∙ ap (element_of before) (ap (λ (e : ElementValue). e.id) c.new.view_is) in
-    OnOk-weaker c.put_made.result (c.put_made.new.elements.items ≡ with_made made before) (HasCarried before old new c.put_made.new.elements.items)
+    let captured : option_copied c.find.result ≡ element_of before new.id =
+    c.find.ensures ∙ ap (element_of before) (ap (λ (e : ElementValue). e.id) c.new.view_is) in
+    OnOk-weaker c.put_made.result (c.put_made.new.elements.items ≡ with_made made before)
+    (HasCarried before old new c.put_made.new.elements.items)
     (λ put. subst (HasCarried before old new) (sym put) (HasCarried-made before old new made c.requires.rise
-    (subst (λ h. IsCarried h old new made) captured c.in_ok-made.ensures.is) (c.in_ok-made.ensures.to ∙ ap (λ h. carried_to h old new) captured)))
+    (subst (λ h. IsCarried h old new made) captured c.in_ok-made.ensures.is) (c.in_ok-made.ensures.to
+    ∙ ap (λ h. carried_to h old new) captured)))
     c.put_made.ensures.ok
 
 pub returns-clause-over : goal.returns-clause-over
@@ -32,7 +35,10 @@ returns-clause-over c =
     let old = option_copied c.args.old in
     let new = c.args.new.now in
     let made = c.in_ok-made.made in
-    let captured : option_copied c.find.result ≡ element_of before new.id = c.find.ensures ∙ ap (element_of before) (ap (λ (e : ElementValue). e.id) c.new.view_is) in
-    OnOk-weaker c.put_made.result (c.put_made.new.elements.items ≡ with_made made before) (c.put_made.new.elements.items ≡ carried_over old new before)
-    (λ put. put ∙ ap (λ m. with_made m before) (c.in_ok-made.ensures.to ∙ ap (λ h. carried_to h old new) captured) ∙ sym (carried_over-to old new before))
+    let captured : option_copied c.find.result ≡ element_of before new.id =
+    c.find.ensures ∙ ap (element_of before) (ap (λ (e : ElementValue). e.id) c.new.view_is) in
+    OnOk-weaker c.put_made.result (c.put_made.new.elements.items ≡ with_made made before) (c.put_made.new.elements.items
+    ≡ carried_over old new before)
+    (λ put. put ∙ ap (λ m. with_made m before) (c.in_ok-made.ensures.to ∙ ap (λ h. carried_to h old new) captured)
+    ∙ sym (carried_over-to old new before))
     c.put_made.ensures.ok

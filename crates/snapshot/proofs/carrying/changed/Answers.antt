@@ -10,7 +10,8 @@ use Rattle.undoing.proofs.CallerLemmas.{same_kind-true}
 use Rattle.snapshot.proofs.carrying.changed.Goals as goal
 
 pub follow-requires-clause-elements : goal.follow-requires-clause-elements
-follow-requires-clause-elements c = (subst IsElement c.old.view_is c.old.invariant, subst IsElement c.new.view_is c.new.invariant)
+follow-requires-clause-elements c =
+    (subst IsElement c.old.view_is c.old.invariant, subst IsElement c.new.view_is c.new.invariant)
 
 pub returns-in_ok-try_clone-clause-to : goal.returns-in_ok-try_clone-clause-to
 returns-in_ok-try_clone-clause-to c =
@@ -19,8 +20,10 @@ returns-in_ok-try_clone-clause-to c =
     let apart : same_kind old.kind new.kind ≡ true → ⊥ = λ t.
     false≢true (sym c.if-are_one_kind.false
     ∙ c.are_one_kind.ensures.1 (ap (λ (e : ElementValue). e.kind) c.old.view_is
-    ∙ same_kind-true old.kind new.kind (subst IsElement c.old.view_is c.old.invariant).kind (subst IsElement c.new.view_is c.new.invariant).kind t
+    ∙ same_kind-true old.kind new.kind (subst IsElement c.old.view_is c.old.invariant).kind
+    (subst IsElement c.new.view_is c.new.invariant).kind t
     ∙ sym (ap (λ (e : ElementValue). e.kind) c.new.view_is))) in
     ap Some c.in_ok-try_clone.ensures
-    ∙ sym (cond-false (same_kind old.kind new.kind) (option_map (undone (record { before = new; after = old })) (option_copied c.args.captured)) (Some new)
+    ∙ sym (cond-false (same_kind old.kind new.kind) (option_map (undone (record { before = new; after = old }))
+    (option_copied c.args.captured)) (Some new)
     (false_from_ne_true (same_kind old.kind new.kind) apart))

@@ -18,15 +18,20 @@ loop-i-preserved c =
           let e = w.in-Some.e.now in
           let at = sym w.in-Some.ensures.element in
           rw w.copies-is
-          (w.in_ok-push.ensures.items ∙ ap₂ (λ es (copy : ElementValue). es ++ copy ∷ []) c.loop-i.invariant w.in_ok-copy.ensures
-          ∙ sym (take_more store i e (slice_get_within store i e at) ∙ ap (λ x. take i store ++ x ∷ []) (get_or_from_slice_get store i e e at)))
-      | in_default w ↦ absurd (stored-at store i (omega (arith, c.len-i-end.ensures.exact)) w.in_default.ensures.element)
+          (w.in_ok-push.ensures.items ∙ ap₂ (λ es (copy : ElementValue). es ++ copy ∷ []) c.loop-i.invariant
+          w.in_ok-copy.ensures
+          ∙ sym (take_more store i e (slice_get_within store i e at)
+          ∙ ap (λ x. take i store ++ x ∷ []) (get_or_from_slice_get store i e e at)))
+      | in_default w ↦ absurd (stored-at store i (omega (arith, c.len-i-end.ensures.exact))
+          w.in_default.ensures.element)
     ]
 
 pub returns-clause-exact : goal.returns-clause-exact
-returns-clause-exact c = c.loop-i.invariant ∙ take_all c.loop-i.i c.args.store.now.elements (omega (arith, c.len-i-end.ensures.exact))
+returns-clause-exact c =
+    c.loop-i.invariant ∙ take_all c.loop-i.i c.args.store.now.elements (omega (arith, c.len-i-end.ensures.exact))
 
 pub returns-clause-ordered : goal.returns-clause-ordered
 returns-clause-ordered c =
-    ap (λ es. are_rising (ids_of es)) (c.loop-i.invariant ∙ take_all c.loop-i.i c.args.store.now.elements (omega (arith, c.len-i-end.ensures.exact)))
+    ap (λ es. are_rising (ids_of es)) (c.loop-i.invariant
+    ∙ take_all c.loop-i.i c.args.store.now.elements (omega (arith, c.len-i-end.ensures.exact)))
     ∙ c.len-i-end.ensures.ordered

@@ -22,15 +22,19 @@ loop-id-preserved c =
       next = tt;
       finite = tt;
       over =
-          ap (all_found stored c.next.new.self) (found-over stored captured c.requires.rise id copies new old was.ordered was.found c.find.ensures own c.get.ensures.element put)
+          ap (all_found stored c.next.new.self) (found-over stored captured c.requires.rise id copies new old
+          was.ordered was.found c.find.ensures own c.get.ensures.element put)
           ∙ sym (ap (λ ids. all_found stored ids (with_all_put copies captured)) c.in-Some.ensures.steps) ∙ was.over;
-      ordered = found-ordered stored captured c.requires.rise id copies new old was.ordered was.found c.find.ensures own put;
-      found = found-found stored captured c.requires.rise id copies new old was.ordered was.found c.find.ensures own c.get.ensures.element put;
+      ordered =
+          found-ordered stored captured c.requires.rise id copies new old was.ordered was.found c.find.ensures own put;
+      found = found-found stored captured c.requires.rise id copies new old was.ordered was.found c.find.ensures own
+          c.get.ensures.element put;
     }
 
 pub returns-clause-over : goal.returns-clause-over
 returns-clause-over c =
     let stored = c.args.store.now.elements in
     let captured = c.args.elements.now.items in
-    sym (ap (λ ids. all_found stored ids (with_all_put c.loop-id.copies.items captured)) c.in-None.ensures.steps.0) ∙ c.loop-id.invariant.over
+    sym (ap (λ ids. all_found stored ids (with_all_put c.loop-id.copies.items captured)) c.in-None.ensures.steps.0)
+    ∙ c.loop-id.invariant.over
     ∙ found-all stored captured c.requires.rise c.args.touched.now.keys c.len-2.ensures.ordered c.requires.untouched

@@ -10,7 +10,8 @@ abbrev pub invariant-loop-id : goal.invariant-loop-id
 invariant-loop-id l = record {
   next : (goal.iterator-loop-id).can_next l.id-iterator;
   finite : (goal.iterator-loop-id).is_finite l.id-iterator;
-  over : all_found l.store.elements l.id-iterator (with_all_put l.copies.items l.elements.items) ≡ all_found l.store.elements l.touched.keys l.elements.items;
+  over : all_found l.store.elements l.id-iterator (with_all_put l.copies.items l.elements.items)
+      ≡ all_found l.store.elements l.touched.keys l.elements.items;
   ordered : are_rising (ids_of l.copies.items) ≡ true;
   found : AreFound l.store.elements l.copies.items;
 }

@@ -19,7 +19,8 @@ loop-e-preserved c =
     subst (λ es. HasTouched c.args.ids.now.keys es c.touch_id.new.ids.keys)
     (sym (take_more list i e within ∙ ap (λ x. take i list ++ x ∷ []) (sym c.e-item.is)))
     (touched-more c.args.ids.now.keys c.loop-e.ids.keys c.touch_id.new.ids.keys (take i list) e c.loop-e.invariant
-    (subst (λ (x : ElementValue). IsTouched c.loop-e.ids.keys x.id c.touch_id.new.ids.keys) c.e.view_is c.in_ok-touch_id.ensures.touched))
+    (subst (λ (x : ElementValue). IsTouched c.loop-e.ids.keys x.id c.touch_id.new.ids.keys) c.e.view_is
+    c.in_ok-touch_id.ensures.touched))
 
 pub returns-in_err-touch_id-clause-kept : goal.returns-in_err-touch_id-clause-kept
 returns-in_err-touch_id-clause-kept c = λ id f. c.loop-e.invariant.still id (c.touch_id.ensures.kept id f)
@@ -32,8 +33,10 @@ returns-in_err-touch_id-clause-only c = λ id f n.
     let within : i < length list = omega arith in
     let own =
     none-split (take i list) e id
-    (subst (λ es. element_of es id ≡ None) (take_more list i e within ∙ ap (λ x. take i list ++ x ∷ []) (sym c.e-item.is)) (none-take (i + 1) list id n)) in
-    subst (λ (x : ElementValue). TouchesNoOther c.loop-e.ids.keys x.id c.touch_id.new.ids.keys) c.e.view_is c.touch_id.ensures.only id
+    (subst (λ es. element_of es id ≡ None) (take_more list i e within
+    ∙ ap (λ x. take i list ++ x ∷ []) (sym c.e-item.is)) (none-take (i + 1) list id n)) in
+    subst (λ (x : ElementValue). TouchesNoOther c.loop-e.ids.keys x.id c.touch_id.new.ids.keys) c.e.view_is
+    c.touch_id.ensures.only id
     (c.loop-e.invariant.only id f own.0) own.1
 
 pub returns-clause-only : goal.returns-clause-only

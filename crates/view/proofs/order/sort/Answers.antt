@@ -9,6 +9,9 @@ use Rattle.view.proofs.order.sort.Goals as goal
 pub returns-clause-sorted : goal.returns-clause-sorted
 returns-clause-sorted c =
     on_ok_weaker c.sort_by.result
-    (λ sorted. in_order-from_sort scene_order (elements_of c.args.spots.now.items) (elements_of c.sort_by.new.self.items) c.requires (IsPermutation-map element_at _ _ c.sort_by.ensures.permutation)
-    (sorted-elements c.sort_by.new.self.items (sorted spot_before spot_before-order (answers_always _ _ _ (λ f a r g k. search rules)))))
+    (λ sorted. in_order-from_sort scene_order (elements_of c.args.spots.now.items)
+    (elements_of c.sort_by.new.self.items) c.requires
+    (IsPermutation-map element_at _ _ c.sort_by.ensures.permutation)
+    (sorted-elements c.sort_by.new.self.items
+    (sorted spot_before spot_before-order (answers_always _ _ _ (λ f a r g k. search rules)))))
     c.sort_by.ensures.sorted

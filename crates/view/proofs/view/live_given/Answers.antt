@@ -5,4 +5,5 @@ use Rattle.view.specs.Shown.{is_live}
 use Rattle.view.proofs.view.live_given.Goals as goal
 
 pub returns : goal.returns
-returns c = filter_same _ is_live _ (λ x b f' k. search rules) _ _ c.retain.ensures.filtered ∙ ap (filter is_live) c.into_given-elements.ensures
+returns c = filter_same _ is_live _ (λ x b f' k. search rules) _ _ c.retain.ensures.filtered
+    ∙ ap (filter is_live) c.into_given-elements.ensures

@@ -13,9 +13,13 @@ loop-i-preserved c =
     elim c.match-at.branch [
       | in-Some+then-is_live+in_ok-push w ↦ record {
         exact = rw w.live-is
-            (live_one stored c.loop-i.i w.in-Some.e.now w.in-Some.ensures.element (elements_of c.loop-i.live.items) (elements_of w.push.new.self.items) w.in-Some.e.now
-            (sym w.is_live.ensures ∙ w.if-is_live.true) c.loop-i.invariant.exact refl (ap elements_of w.in_ok-push.ensures.items ∙ map-append element_at c.loop-i.live.items _));
-        stored = rw (w.live-is, w.in_ok-push.ensures.items) (All-push (IsSpotIn stored) c.loop-i.live.items _ c.loop-i.invariant.stored (sym w.in-Some.ensures.element));
+            (live_one stored c.loop-i.i w.in-Some.e.now w.in-Some.ensures.element (elements_of c.loop-i.live.items)
+            (elements_of w.push.new.self.items) w.in-Some.e.now
+            (sym w.is_live.ensures ∙ w.if-is_live.true) c.loop-i.invariant.exact refl
+            (ap elements_of w.in_ok-push.ensures.items ∙ map-append element_at c.loop-i.live.items _));
+        stored = rw (w.live-is, w.in_ok-push.ensures.items)
+            (All-push (IsSpotIn stored) c.loop-i.live.items _ c.loop-i.invariant.stored
+            (sym w.in-Some.ensures.element));
       }
       | in-Some+else-is_live w ↦ record {
         exact = rw w.live-is
@@ -23,12 +27,14 @@ loop-i-preserved c =
             (sym w.is_live.ensures ∙ w.if-is_live.false) c.loop-i.invariant.exact);
         stored = rw w.live-is c.loop-i.invariant.stored;
       }
-      | in_default w ↦ absurd (within_stored stored c.loop-i.i (omega (arith, c.len-i-end.ensures.exact)) w.in_default.ensures.element)
+      | in_default w ↦ absurd (within_stored stored c.loop-i.i (omega (arith, c.len-i-end.ensures.exact))
+          w.in_default.ensures.element)
     ]
 
 pub returns-clause-exact : goal.returns-clause-exact
 returns-clause-exact c =
-    c.loop-i.invariant.exact ∙ ap live_elements (take_all c.loop-i.i c.args.store.now.elements (omega (arith, c.len-i-end.ensures.exact)))
+    c.loop-i.invariant.exact
+    ∙ ap live_elements (take_all c.loop-i.i c.args.store.now.elements (omega (arith, c.len-i-end.ensures.exact)))
 
 pub returns-clause-ordered : goal.returns-clause-ordered
 returns-clause-ordered c = c.len-i-end.ensures.ordered

@@ -14,9 +14,11 @@ exact c = c.in_ok-shown.ensures.exact ∙ ap shown c.in_ok-live.ensures.exact
 keys : (c : goal.In_ok-originals) → HaveKeysOrNone (live_elements c.args.store.now.elements)
 keys c = subst HaveKeysOrNone c.in_ok-live.ensures.exact c.in_ok-shown.ensures.keys
 
-as_stored : (c : goal.In_ok-originals) → all_as_stored c.in_ok-originals.originals c.in_ok-shown.shown ≡ live_elements c.args.store.now.elements
+as_stored : (c : goal.In_ok-originals) → all_as_stored c.in_ok-originals.originals c.in_ok-shown.shown
+    ≡ live_elements c.args.store.now.elements
 as_stored c =
-    all_as_stored-live c.args.store.now.elements c.in_ok-originals.originals c.in_ok-live.ensures.ordered c.in_ok-shown.shown (keys c) (exact c) c.in_ok-originals.ensures
+    all_as_stored-live c.args.store.now.elements c.in_ok-originals.originals c.in_ok-live.ensures.ordered
+    c.in_ok-shown.shown (keys c) (exact c) c.in_ok-originals.ensures
 
 pub invariant_of-result : goal.invariant_of-result
 invariant_of-result c =

@@ -8,7 +8,8 @@ pub returns-clause-read : goal.returns-clause-read
 returns-clause-read c = drill-read
 
 pub returns-clause-limits : goal.returns-clause-limits
-returns-clause-limits c = λ seed events small few. session-kept (drill_text seed events) (drill_session seed events) (drill-read seed events small few)
+returns-clause-limits c = λ seed events small few. session-kept (drill_text seed events) (drill_session seed events)
+    (drill-read seed events small few)
 
 pub returns-clause-drill : goal.returns-clause-drill
 returns-clause-drill c = drill-is

@@ -26,10 +26,12 @@ loop-number-preserved c =
     let makes = c.messages_of-made.ensures in
     let positive = some-more number c.loop-number.made c.draw_all-draws.result before.some in
     record {
-      lines = lines-next seed number c.args.out.now.items c.loop-number.out.items c.push_deed.new.out.items c.push.new.self.items deed is before.lines c.in_ok-push_deed.ensures
+      lines = lines-next seed number c.args.out.now.items c.loop-number.out.items c.push_deed.new.out.items
+          c.push.new.self.items deed is before.lines c.in_ok-push_deed.ensures
           c.in_ok-push.ensures.items;
       made = ap₂ (λ (a b : ℕ). a + b) before.made (makes ∙ ap messages_of is) ∙ sym (ap (λ (x : Course). x.made) next);
-      generator = c.draw_all-draws.ensures.after ∙ (ap after_draws before.generator ∙ sym (ap (λ (x : Course). x.generator) next));
+      generator = c.draw_all-draws.ensures.after
+          ∙ (ap after_draws before.generator ∙ sym (ap (λ (x : Course). x.generator) next));
       few = omega (arith, before.few, few, makes);
       some = λ h. omega (arith, positive, makes, ap messages_of c.deed_of-deed.ensures);
     }

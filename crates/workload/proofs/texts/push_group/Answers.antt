@@ -5,6 +5,9 @@ use Rattle.workload.proofs.texts.push_group.Goals as goal
 
 pub returns : goal.returns
 returns c =
-    appended5 c.args.out.now.items c.extend_from_slice.new.self.items c.push_id.new.out.items c.push.new.self.items c.push_id-2.new.out.items c.extend_from_slice-2.new.self.items (codes "{\"name\":\"group\",\"ids\":[") (id_text c.args.element) (codes ",") (id_text c.args.other) (codes "],\"group\":\"g\"}")
-    c.in_ok-extend_from_slice.ensures.items c.in_ok-push_id.ensures c.in_ok-push.ensures.items c.in_ok-push_id-2.ensures c.in_ok-extend_from_slice-2.ensures.items
+    appended5 c.args.out.now.items c.extend_from_slice.new.self.items c.push_id.new.out.items c.push.new.self.items
+    c.push_id-2.new.out.items c.extend_from_slice-2.new.self.items (codes "{\"name\":\"group\",\"ids\":[")
+    (id_text c.args.element) (codes ",") (id_text c.args.other) (codes "],\"group\":\"g\"}")
+    c.in_ok-extend_from_slice.ensures.items c.in_ok-push_id.ensures c.in_ok-push.ensures.items c.in_ok-push_id-2.ensures
+    c.in_ok-extend_from_slice-2.ensures.items
     ∙ ap (λ (bytes : List ℕ). c.args.out.now.items ++ bytes) (sym (group-parts c.args.element c.args.other))

@@ -5,6 +5,10 @@ use Rattle.workload.proofs.texts.push_place.Goals as goal
 
 pub returns : goal.returns
 returns c =
-    appended5 c.args.out.now.items c.extend_from_slice.new.self.items c.push_id.new.out.items c.extend_from_slice-2.new.self.items c.push_id-2.new.out.items c.extend_from_slice-3.new.self.items (codes "{\"name\":\"place\",\"id\":") (id_text c.args.element) (codes ",\"spot\":{\"after\":") (id_text c.args.other) (codes "}}")
-    c.in_ok-extend_from_slice.ensures.items c.in_ok-push_id.ensures c.in_ok-extend_from_slice-2.ensures.items c.in_ok-push_id-2.ensures c.in_ok-extend_from_slice-3.ensures.items
+    appended5 c.args.out.now.items c.extend_from_slice.new.self.items c.push_id.new.out.items
+    c.extend_from_slice-2.new.self.items c.push_id-2.new.out.items c.extend_from_slice-3.new.self.items
+    (codes "{\"name\":\"place\",\"id\":") (id_text c.args.element) (codes ",\"spot\":{\"after\":")
+    (id_text c.args.other) (codes "}}")
+    c.in_ok-extend_from_slice.ensures.items c.in_ok-push_id.ensures c.in_ok-extend_from_slice-2.ensures.items
+    c.in_ok-push_id-2.ensures c.in_ok-extend_from_slice-3.ensures.items
     ∙ ap (λ (bytes : List ℕ). c.args.out.now.items ++ bytes) (sym (place-parts c.args.element c.args.other))

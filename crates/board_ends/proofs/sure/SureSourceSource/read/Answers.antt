@@ -9,5 +9,6 @@ returns-clause-given c =
     let is = ap (λ (source : SureSourceState). source.left) (sym c.self.view_is) in
     let count = rw c.as_slice.ensures at c.copy_front-n.ensures.count in
     let copied = rw c.as_slice.ensures at c.copy_front-n.ensures.copied in
-    let within : c.copy_front-n.result ≤ length c.self.inside.bytes - c.self.inside.given = omega (arith, count, length-take {A = ℕ}, length-drop {A = ℕ}) in
+    let within : c.copy_front-n.result ≤ length c.self.inside.bytes - c.self.inside.given =
+    omega (arith, count, length-take {A = ℕ}, length-drop {A = ℕ}) in
     left-next _ _ _ _ _ is within copied

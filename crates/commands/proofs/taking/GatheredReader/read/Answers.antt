@@ -7,10 +7,14 @@ use Rattle.commands.proofs.taking.GatheredReader.read.Goals as goal
 
 pub returns-clause-read : goal.returns-clause-read
 returns-clause-read c texts say =
-    let old : BoardSoFar = record { heads = c.self.inside.heads; stored = c.self.inside.store.elements; next = c.self.inside.next } in
-    let new : BoardSoFar = record { heads = c.take.new.self; stored = c.take_all.new.self.elements; next = c.in_ok-next.next } in
-    board-more texts c.args.text.now c.in_ok-head.field-0 old new (subst (SayBoard texts) (sym c.self.view_is) say) c.in_ok-head.ensures.scene
-    c.in_ok-take.ensures (λ updates are. c.take_all.ensures updates (subst (AreStored updates) (sym c.in_ok-reserve.ensures.elements) are))
+    let old : BoardSoFar =
+    record { heads = c.self.inside.heads; stored = c.self.inside.store.elements; next = c.self.inside.next } in
+    let new : BoardSoFar =
+    record { heads = c.take.new.self; stored = c.take_all.new.self.elements; next = c.in_ok-next.next } in
+    board-more texts c.args.text.now c.in_ok-head.field-0 old new (subst (SayBoard texts) (sym c.self.view_is) say)
+    c.in_ok-head.ensures.scene
+    c.in_ok-take.ensures (λ updates are. c.take_all.ensures updates
+    (subst (AreStored updates) (sym c.in_ok-reserve.ensures.elements) are))
     c.in_ok-next.ensures
 
 later-number : (n m : ℕ) → n ≡ m + 1 → 1 ≤ m → (n == 1) ≡ false

@@ -8,7 +8,8 @@ pub returns-clause-read : goal.returns-clause-read
 returns-clause-read c texts say =
     let old : ShelfSoFar = record { best = c.self.inside.shelf; next = c.self.inside.next } in
     let new : ShelfSoFar = record { best = c.put_all.new.shelf; next = c.in_ok-next.next } in
-    shelf-more texts c.args.text.now c.in_ok-items.items old new (subst (SayShelf texts) (sym c.self.view_is) say) c.in_ok-items.ensures.library c.in_ok-put_all.ensures c.in_ok-next.ensures
+    shelf-more texts c.args.text.now c.in_ok-items.items old new (subst (SayShelf texts) (sym c.self.view_is) say)
+    c.in_ok-items.ensures.library c.in_ok-put_all.ensures c.in_ok-next.ensures
 
 later-number : (n m : ℕ) → n ≡ m + 1 → 1 ≤ m → (n == 1) ≡ false
 later-number n m next some = grind (arith, nat_tests)

@@ -17,7 +17,8 @@ some_item : {T : Type 0} (xs : List T) (k : ℕ) → k < length xs → T
 some_item [] k below = absurd (omega arith)
 some_item (x ∷ xs) k below = x
 
-same_from_cases : {T : Type 0} (xs ys : List T) (r : Bool) → length xs ≡ length ys → AllSame r xs ys → (IsTrue r → xs ≡ ys) × (xs ≡ ys → IsTrue r)
+same_from_cases : {T : Type 0} (xs ys : List T) (r : Bool) → length xs ≡ length ys → AllSame r xs ys
+    → (IsTrue r → xs ≡ ys) × (xs ≡ ys → IsTrue r)
 same_from_cases xs ys true long h = (
   λ _. same_lists xs ys long
       (λ k d below.
@@ -39,4 +40,5 @@ returns-then-items-others g c =
     let ys = c.args.other.now in
     same_from_cases xs ys c.all.result (cc)
     (cases_from_all c.all.new.self _ _ (λ p. p.0 ≡ p.1) (λ p. p.0 ≢ p.1) c.all.ensures.ran
-    (YieldsList-from_zip (YieldsList-from_slice xs (cc)) (YieldsList-from_slice ys (cc))) (λ x q k. search rules) (λ x q k. search rules))
+    (YieldsList-from_zip (YieldsList-from_slice xs (cc)) (YieldsList-from_slice ys (cc))) (λ x q k. search rules)
+    (λ x q k. search rules))

@@ -16,8 +16,10 @@ there c = ap (λ fronts. slice_get fronts c.args.place) (sym c.self.invariant) �
 
 pub returns-in-Less : goal.returns-in-Less
 returns-in-Less c =
-    rw (← c.self.view_is) (sym (placed-decides Less not_less _ c.args.place c.args.id.now c.in-Some.known (there (goal.at.returns-in-Less c).In-Some) (rw (← c.requires, ← c.bytes_order.ensures) c.in-Less.is)))
+    rw (← c.self.view_is) (sym (placed-decides Less not_less _ c.args.place c.args.id.now c.in-Some.known
+    (there (goal.at.returns-in-Less c).In-Some) (rw (← c.requires, ← c.bytes_order.ensures) c.in-Less.is)))
 
 pub returns-in-Greater : goal.returns-in-Greater
 returns-in-Greater c =
-    rw (← c.self.view_is) (sym (placed-decides Greater not_greater _ c.args.place c.args.id.now c.in-Some.known (there (goal.at.returns-in-Greater c).In-Some) (rw (← c.requires, ← c.bytes_order.ensures) c.in-Greater.is)))
+    rw (← c.self.view_is) (sym (placed-decides Greater not_greater _ c.args.place c.args.id.now c.in-Some.known
+    (there (goal.at.returns-in-Greater c).In-Some) (rw (← c.requires, ← c.bytes_order.ensures) c.in-Greater.is)))

@@ -12,5 +12,6 @@ loop-e-preserved c = record {
 pub returns : goal.returns
 returns c updates are =
     let none : c.loop-e.e-iterator.rest.items ≡ [] = nil_from_length _ (omega (arith, c.in-None.ensures.steps)) in
-    let all : c.args.elements ≡ c.loop-e.yielded = c.loop-e.invariant.parts ∙ ap (λ rest. c.loop-e.yielded ++ rest) none ∙ append-nil c.loop-e.yielded in
+    let all : c.args.elements ≡ c.loop-e.yielded =
+    c.loop-e.invariant.parts ∙ ap (λ rest. c.loop-e.yielded ++ rest) none ∙ append-nil c.loop-e.yielded in
     rw all (c.loop-e.invariant.stored updates are)

@@ -14,7 +14,8 @@ returns-clause-exact c =
     let files = c.self.inside.entries.entries in
     ap pairs c.from_vec.ensures ∙ c.in_ok-found.ensures
     ∙ found-by_id files c.in_ok-ids.ids.items
-    ∙ ap (found (sorted_members files)) (c.in_ok-ids.ensures.exact ∙ ap first_texts (c.as_slice.ensures.value ∙ c.in_ok-named.ensures))
+    ∙ ap (found (sorted_members files)) (c.in_ok-ids.ensures.exact
+    ∙ ap first_texts (c.as_slice.ensures.value ∙ c.in_ok-named.ensures))
     ∙ ap (λ files. referred_files files c.args.list.now) c.self.view_is
 
 pub returns-clause-distinct : goal.returns-clause-distinct

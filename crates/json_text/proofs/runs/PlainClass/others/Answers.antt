@@ -5,4 +5,5 @@ use Rattle.json_text.proofs.runs.PlainClass.others.Goals as goal
 
 pub returns : goal.returns
 returns c =
-    masked _ _ _ _ c.fits-bytes (marked _ 92 _ c.fits-bytes.0 (zip2_splat (compared eqb) c.args.bytes 16 34 c.fits-bytes.0)) refl
+    masked _ _ _ _ c.fits-bytes (marked _ 92 _ c.fits-bytes.0
+    (zip2_splat (compared eqb) c.args.bytes 16 34 c.fits-bytes.0)) refl

@@ -12,11 +12,13 @@ loop-item-init c = record {
 pub loop-item-preserved : goal.loop-item-preserved
 loop-item-preserved c = record {
   best = c.in-Ok.ensures.best _ c.loop-item.invariant.best;
-  parts = rw append_assoc (c.loop-item.invariant.parts ∙ ap (λ rest. c.loop-item.yielded ++ rest) c.in-Some.ensures.steps.0);
+  parts = rw append_assoc (c.loop-item.invariant.parts
+      ∙ ap (λ rest. c.loop-item.yielded ++ rest) c.in-Some.ensures.steps.0);
 }
 
 pub returns : goal.returns
 returns c =
     let none : c.loop-item.item-iterator.rest.items ≡ [] = nil_from_length _ (omega (arith, c.in-None.ensures.steps)) in
-    let all : c.args.items ≡ c.loop-item.yielded = c.loop-item.invariant.parts ∙ ap (λ rest. c.loop-item.yielded ++ rest) none ∙ append-nil c.loop-item.yielded in
+    let all : c.args.items ≡ c.loop-item.yielded =
+    c.loop-item.invariant.parts ∙ ap (λ rest. c.loop-item.yielded ++ rest) none ∙ append-nil c.loop-item.yielded in
     rw all c.loop-item.invariant.best

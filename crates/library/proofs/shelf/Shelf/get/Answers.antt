@@ -6,4 +6,5 @@ pub returns-clause-ordered : goal.returns-clause-ordered
 returns-clause-ordered c = rw (← c.self.view_is) c.self.invariant.rise
 
 pub returns-clause-item : goal.returns-clause-item
-returns-clause-item c = rw (← c.self.view_is) (c.filed_under.ensures ∙ sym (filed-is c.self.inside.items.entries c.args.id.now c.self.invariant.under))
+returns-clause-item c = rw (← c.self.view_is) (c.filed_under.ensures
+    ∙ sym (filed-is c.self.inside.items.entries c.args.id.now c.self.invariant.under))

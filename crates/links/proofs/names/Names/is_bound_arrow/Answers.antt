@@ -12,9 +12,12 @@ pub returns-then-is_target : goal.returns-then-is_target
 returns-then-is_target c =
     let test = has_end_at c.id_of-id.result.now in
     let any : c.any.result ≡ list_any (λ row. test (row_element row)) c.of_id.result.now =
-    any_from_yields_List (λ row. test (row_element row)) _ _ c.any.result c.any.ensures.ran (YieldsList-from_slice c.of_id.result.now cc) (λ x b q k. search (rules, tests)) in
+    any_from_yields_List (λ row. test (row_element row)) _ _ c.any.result c.any.ensures.ran
+    (YieldsList-from_slice c.of_id.result.now cc) (λ x b q k. search (rules, tests)) in
     any ∙ any-under (has_id c.args.arrow.now) c.of_id.result.now c.args.self.now c.of_id.ensures test
-    ∙ bound_arrow-is c.args.self.now c.args.e.now c.id_of-id.result.now c.args.arrow.now c.id_of-id.ensures (sym c.is_target.ensures ∙ c.if-is_target.true)
+    ∙ bound_arrow-is c.args.self.now c.args.e.now c.id_of-id.result.now c.args.arrow.now c.id_of-id.ensures
+    (sym c.is_target.ensures ∙ c.if-is_target.true)
 
 pub returns-else-is_target : goal.returns-else-is_target
-returns-else-is_target c = c.if-is_target.false ∙ bound_arrow-none c.args.self.now c.args.e.now c.args.arrow.now (sym c.is_target.ensures ∙ c.if-is_target.false)
+returns-else-is_target c = c.if-is_target.false
+    ∙ bound_arrow-none c.args.self.now c.args.e.now c.args.arrow.now (sym c.is_target.ensures ∙ c.if-is_target.false)

@@ -13,6 +13,7 @@ use Rattle.links.proofs.names.Names.names_target.Goals as goal
 pub returns-in-Some : goal.returns-in-Some
 returns-in-Some c =
     let any : c.any.result ≡ list_any (λ row. is_target (row_element row)) c.of_id.result.now =
-    any_from_yields_List (λ row. is_target (row_element row)) _ _ c.any.result c.any.ensures.ran (YieldsList-from_slice c.of_id.result.now cc) (λ x b q k. search (rules, tests)) in
+    any_from_yields_List (λ row. is_target (row_element row)) _ _ c.any.result c.any.ensures.ran
+    (YieldsList-from_slice c.of_id.result.now cc) (λ x b q k. search (rules, tests)) in
     any ∙ any-under (has_id c.in-Some.id.now) c.of_id.result.now c.args.self.now c.of_id.ensures is_target
     ∙ ap (λ target. names_target c.args.self.now (option_copied target)) (sym c.in-Some.is)

@@ -12,12 +12,22 @@ use Rattle.live.proofs.life.Life.turn.Goals as goal
 pub returns-clause-given : goal.returns-clause-given
 returns-clause-given c = λ l stands.
     let inside = c.self.inside in
-    let old : Held = record { number = inside.number; generator = inside.generator; head = inside.head; replica = inside.replica } in
-    let new : Held = record { number = inside.number; generator = c.in_ok-nonce.generator; head = inside.head; replica = c.turn.new.replica } in
+    let old : Held =
+    record { number = inside.number; generator = inside.generator; head = inside.head; replica = inside.replica } in
+    let new : Held = record {
+      number = inside.number;
+      generator = c.in_ok-nonce.generator;
+      head = inside.head;
+      replica =
+          c.turn.new.replica;
+    } in
     let own = subst (λ (h : Held). LifeStandsFor h l) (sym c.self.view_is) stands in
     let st = l.seat.state in
     let n = nonce_of l in
     let nonce = c.in_ok-nonce.ensures.nonce ∙ (λ i. 64 * next_word (own.generator i) + own.number i) in
-    act-given (step_text (turn_on c.args.direction c.args.time n st)) (turn_by c.args.direction c.args.time n st) l old new c.in_ok-text.text own
-    (subst (λ k. IsActed (step_text (turn_on c.args.direction c.args.time k st)) (turn_by c.args.direction c.args.time k st) c.in_ok-text.text c.turn.new.replica) nonce (c.in_ok-text.ensures.acted st own.replica))
+    act-given (step_text (turn_on c.args.direction c.args.time n st)) (turn_by c.args.direction c.args.time n st) l old
+    new c.in_ok-text.text own
+    (subst (λ k. IsActed (step_text (turn_on c.args.direction c.args.time k st))
+    (turn_by c.args.direction c.args.time k st) c.in_ok-text.text c.turn.new.replica) nonce
+    (c.in_ok-text.ensures.acted st own.replica))
     (turn_by-held c.args.direction c.args.time n st) refl c.in_ok-nonce.ensures.generator refl

@@ -7,5 +7,6 @@ use Rattle.live.proofs.talk.Talk.answer.Goals as goal
 pub returns-in-Some-clause-told : goal.returns-in-Some-clause-told
 returns-in-Some-clause-told c =
     IfOk-weaker c.answer.result _ _
-    (λ text told old stands. goes-on c.in-Some.life c.answer.new.life c.args.line.now text told old (subst (λ (h : Option Held). TalkStandsFor h old) (sym c.self.view_is ∙ c.in-Some.is) stands))
+    (λ text told old stands. goes-on c.in-Some.life c.answer.new.life c.args.line.now text told old
+    (subst (λ (h : Option Held). TalkStandsFor h old) (sym c.self.view_is ∙ c.in-Some.is) stands))
     c.answer.ensures.told

@@ -17,20 +17,25 @@ add-requires c = c.loop-other.invariant.are
 pub loop-other-preserved : goal.loop-other-preserved
 loop-other-preserved c =
     let ids = c.args.self.now.list.items in
-    let within : c.loop-other.other-index < length ids = omega (arith, c.loop-other-test.true, ap length c.deref-other-items.ensures.value) in
+    let within : c.loop-other.other-index < length ids =
+    omega (arith, c.loop-other-test.true, ap length c.deref-other-items.ensures.value) in
     let there : c.other-item.result ≡ get_or ids c.loop-other.other-index c.other-item.result =
-    c.other-item.is ∙ ap (λ (xs : List (List ℕ)). get_or xs c.loop-other.other-index c.other-item.result) c.deref-other-items.ensures.value in
+    c.other-item.is ∙ ap (λ (xs : List (List ℕ)). get_or xs c.loop-other.other-index c.other-item.result)
+    c.deref-other-items.ensures.value in
     elim c.if-ne.branch [
       | then-ne+in_ok-add w ↦
           let off : bytes_eq c.args.id.now c.other-item.result ≡ false = off-from _ w.if-ne.ensures in
           rw w.ids-is (record {
             are = w.in_ok-add.ensures.are;
-            each = others-add c.args.id.now ids c.loop-other.other-index c.other-item.result within there c.loop-other.ids.list.items c.loop-other.invariant.each off w.add.new.self.list.items w.in_ok-add.ensures.ids;
+            each = others-add c.args.id.now ids c.loop-other.other-index c.other-item.result within there
+                c.loop-other.ids.list.items c.loop-other.invariant.each off w.add.new.self.list.items
+                w.in_ok-add.ensures.ids;
           })
       | else-ne w ↦
           let own : bytes_eq c.args.id.now c.other-item.result ≡ true = on-from _ w.if-ne.ensures in
           rw w.ids-is (record {
             are = c.loop-other.invariant.are;
-            each = others-skip c.args.id.now ids c.loop-other.other-index c.other-item.result within there c.loop-other.ids.list.items c.loop-other.invariant.each own;
+            each = others-skip c.args.id.now ids c.loop-other.other-index c.other-item.result within there
+                c.loop-other.ids.list.items c.loop-other.invariant.each own;
           })
     ]

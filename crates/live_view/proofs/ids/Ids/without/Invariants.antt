@@ -5,5 +5,6 @@ use Rattle.live_view.proofs.ids.Ids.without.Given as goal
 abbrev pub invariant-loop-other : goal.invariant-loop-other
 invariant-loop-other l = record {
   are : AreIds l.ids.list.items l.ids.seen;
-  each : (other : List ℕ) → is_among l.ids.list.items other ≡ (not (bytes_eq other l.id) && is_among (take l.other-index l.self.list.items) other);
+  each : (other : List ℕ) → is_among l.ids.list.items other
+      ≡ (not (bytes_eq other l.id) && is_among (take l.other-index l.self.list.items) other);
 }

@@ -18,28 +18,46 @@ use Rattle.live_view.proofs.kept.Kept.come.Goals as goal
 use Rattle.live_view.proofs.kept.Kept.come.Goals.{After-replace-2, After-put_all}
 
 gap : (c : After-put_all) → IsGapFor c.into_parts-live.result.live.items c.args.e.now.id c.in-Err.at
-gap c = subst (λ id. IsGapFor c.into_parts-live.result.live.items id c.in-Err.at) c.id.ensures (c.in-Err.ensures.absent c.into_parts-live.ensures.are.view.ordered)
+gap c = subst (λ id. IsGapFor c.into_parts-live.result.live.items id c.in-Err.at) c.id.ensures
+    (c.in-Err.ensures.absent c.into_parts-live.ensures.are.view.ordered)
 
-place : (c : After-put_all) → IsPlaceFor (all_stored c.into_parts-live.result.live.items c.into_parts-live.result.shown.items) c.args.e.now c.in-Some.place
-place c = subst (λ (e : ElementValue). IsPlaceFor (all_stored c.into_parts-live.result.live.items c.into_parts-live.result.shown.items) e c.in-Some.place) c.get.ensures c.in-Some.ensures
+place : (c : After-put_all)
+    → IsPlaceFor (all_stored c.into_parts-live.result.live.items c.into_parts-live.result.shown.items) c.args.e.now
+    c.in-Some.place
+place c =
+    subst (λ (e : ElementValue). IsPlaceFor
+    (all_stored c.into_parts-live.result.live.items c.into_parts-live.result.shown.items) e c.in-Some.place)
+    c.get.ensures c.in-Some.ensures
 
-keys : (c : After-put_all) → AreKeysWith (stored_keys c.into_parts-live.result.live.items c.into_parts-live.result.shown.items) c.args.e.now.index c.in-Some.place c.in-Some-2.rekeying.start c.in-Some-2.rekeying.keys
+keys : (c : After-put_all)
+    → AreKeysWith (stored_keys c.into_parts-live.result.live.items c.into_parts-live.result.shown.items)
+    c.args.e.now.index c.in-Some.place c.in-Some-2.rekeying.start c.in-Some-2.rekeying.keys
 keys c =
-    subst (λ (d : ElementValue). AreKeysWith (stored_keys c.into_parts-live.result.live.items c.into_parts-live.result.shown.items) d.index c.in-Some.place c.in-Some-2.rekeying.start c.in-Some-2.rekeying.keys)
+    subst (λ (d : ElementValue). AreKeysWith
+    (stored_keys c.into_parts-live.result.live.items c.into_parts-live.result.shown.items) d.index c.in-Some.place
+    c.in-Some-2.rekeying.start c.in-Some-2.rekeying.keys)
     (c.behind-e.view_is ∙ c.get-2.ensures) (rw c.in-Some-2.is at c.in_ok-rekeying.ensures)
 
-drawn : (c : After-put_all) → IsComing c.into_parts-live.result.live.items c.into_parts-live.result.shown.items c.args.e.now c.in-Some-3.coming.own c.in-Some-3.coming.puts.items
+drawn : (c : After-put_all) → IsComing c.into_parts-live.result.live.items c.into_parts-live.result.shown.items
+    c.args.e.now c.in-Some-3.coming.own c.in-Some-3.coming.puts.items
 drawn c = rw c.in-Some-3.is at c.in_ok-coming.ensures
 
 view : (c : After-put_all) → IsView (insert c.into_parts-live.result.live.items c.in-Err.at c.args.e.now)
-    (rekeyed c.in-Some-2.rekeying.start c.in-Some-2.rekeying.keys (insert (all_put c.in-Some-3.coming.puts.items c.into_parts-live.result.shown.items) c.in-Some.place c.in-Some-3.coming.own))
+    (rekeyed c.in-Some-2.rekeying.start c.in-Some-2.rekeying.keys
+    (insert (all_put c.in-Some-3.coming.puts.items c.into_parts-live.result.shown.items) c.in-Some.place
+    c.in-Some-3.coming.own))
 view c =
-    IsView-with c.into_parts-live.result.live.items c.into_parts-live.result.shown.items c.into_parts-live.ensures.are.view c.args.e.now c.in-Some-3.coming.own c.in-Err.at c.in-Some.place c.in-Some-2.rekeying.start c.in-Some-3.coming.puts.items c.in-Some-2.rekeying.keys
+    IsView-with c.into_parts-live.result.live.items c.into_parts-live.result.shown.items
+    c.into_parts-live.ensures.are.view c.args.e.now c.in-Some-3.coming.own c.in-Err.at c.in-Some.place
+    c.in-Some-2.rekeying.start c.in-Some-3.coming.puts.items c.in-Some-2.rekeying.keys
     c.requires (gap c) (place c) (keys c) (drawn c)
 
-replaced : (c : After-put_all) → HaveReplaced c.into_parts-live.result.live.items (c.args.e.now ∷ []) (insert c.into_parts-live.result.live.items c.in-Err.at c.args.e.now)
+replaced : (c : After-put_all) → HaveReplaced c.into_parts-live.result.live.items (c.args.e.now ∷ [])
+    (insert c.into_parts-live.result.live.items c.in-Err.at c.args.e.now)
 replaced c =
-    HaveReplaced-with c.into_parts-live.result.live.items c.into_parts-live.result.shown.items c.into_parts-live.ensures.are.view c.args.e.now c.in-Some-3.coming.own c.in-Err.at c.in-Some.place c.in-Some-2.rekeying.start c.in-Some-3.coming.puts.items c.in-Some-2.rekeying.keys
+    HaveReplaced-with c.into_parts-live.result.live.items c.into_parts-live.result.shown.items
+    c.into_parts-live.ensures.are.view c.args.e.now c.in-Some-3.coming.own c.in-Err.at c.in-Some.place
+    c.in-Some-2.rekeying.start c.in-Some-3.coming.puts.items c.in-Some-2.rekeying.keys
     c.requires (gap c) (place c) (keys c) (drawn c)
 
 pub touched-requires : goal.touched-requires
@@ -49,31 +67,48 @@ touched-requires c =
     omega (arith, before, c.in-Some.ensures.within, count)
 
 pub put_all-requires : goal.put_all-requires
-put_all-requires c = all-within c.into_parts-live.result.shown.items c.in-Some-3.coming.puts.items (rw c.in-Some-3.is at c.in_ok-coming.ensures).beside.placed
+put_all-requires c = all-within c.into_parts-live.result.shown.items c.in-Some-3.coming.puts.items
+    (rw c.in-Some-3.is at c.in_ok-coming.ensures).beside.placed
 
 -- what is touched is noted
-noted : (c : After-put_all) → AreOthersAsStored c.note_all.new.unsettled (insert c.into_parts-live.result.live.items c.in-Err.at c.args.e.now)
-    (rekeyed c.in-Some-2.rekeying.start c.in-Some-2.rekeying.keys (insert (all_put c.in-Some-3.coming.puts.items c.into_parts-live.result.shown.items) c.in-Some.place c.in-Some-3.coming.own))
+noted : (c : After-put_all) → AreOthersAsStored c.note_all.new.unsettled
+    (insert c.into_parts-live.result.live.items c.in-Err.at c.args.e.now)
+    (rekeyed c.in-Some-2.rekeying.start c.in-Some-2.rekeying.keys
+    (insert (all_put c.in-Some-3.coming.puts.items c.into_parts-live.result.shown.items) c.in-Some.place
+    c.in-Some-3.coming.own))
 noted c =
-    let ids_are = c.in_ok-ids.ensures ∙ ap (λ id. touched_ids c.into_parts-live.result.shown.items c.in-Some-3.coming.puts.items id c.in-Some-2.rekeying.start c.in-Some-2.rekeying.keys) c.id-2.ensures in
-    others-with c.into_parts-live.result.live.items c.into_parts-live.result.shown.items c.into_parts-live.result.unsettled c.note_all.new.unsettled c.into_parts-live.ensures.are.others c.note_all.ensures.kept
-    c.args.e.now c.in-Some-3.coming.own c.in-Some.place c.in-Some-2.rekeying.start c.in-Some-3.coming.puts.items c.in-Some-2.rekeying.keys (insert c.into_parts-live.result.live.items c.in-Err.at c.args.e.now)
-    (drawn c) (keys c) (replaced c) (subst (λ ids. HasNoted ids c.note_all.new.unsettled) ids_are c.in_ok-note_all.ensures.noted)
+    let ids_are = c.in_ok-ids.ensures
+    ∙ ap (λ id. touched_ids c.into_parts-live.result.shown.items c.in-Some-3.coming.puts.items id
+    c.in-Some-2.rekeying.start c.in-Some-2.rekeying.keys) c.id-2.ensures in
+    others-with c.into_parts-live.result.live.items c.into_parts-live.result.shown.items
+    c.into_parts-live.result.unsettled c.note_all.new.unsettled c.into_parts-live.ensures.are.others
+    c.note_all.ensures.kept
+    c.args.e.now c.in-Some-3.coming.own c.in-Some.place c.in-Some-2.rekeying.start c.in-Some-3.coming.puts.items
+    c.in-Some-2.rekeying.keys (insert c.into_parts-live.result.live.items c.in-Err.at c.args.e.now)
+    (drawn c) (keys c) (replaced c) (subst (λ ids. HasNoted ids c.note_all.new.unsettled) ids_are
+    c.in_ok-note_all.ensures.noted)
 
 pub set_keys-requires : goal.set_keys-requires
 set_keys-requires c =
     let d = (goal.at.set_keys-requires c).After-put_all in
-    let shown_is = c.in_ok-insert.ensures ∙ ap (λ es. insert es c.in-Some.place c.in-Some-3.coming.own) c.put_all.ensures.items in
+    let shown_is =
+    c.in_ok-insert.ensures ∙ ap (λ es. insert es c.in-Some.place c.in-Some-3.coming.own) c.put_all.ensures.items in
     rw shown_is
-    (fits-with' c.into_parts-live.result.live.items c.into_parts-live.result.shown.items c.into_parts-live.ensures.are.view c.args.e.now c.in-Some-3.coming.own c.in-Err.at c.in-Some.place c.in-Some-2.rekeying.start c.in-Some-3.coming.puts.items c.in-Some-2.rekeying.keys
+    (fits-with' c.into_parts-live.result.live.items c.into_parts-live.result.shown.items
+    c.into_parts-live.ensures.are.view c.args.e.now c.in-Some-3.coming.own c.in-Err.at c.in-Some.place
+    c.in-Some-2.rekeying.start c.in-Some-3.coming.puts.items c.in-Some-2.rekeying.keys
     c.requires (gap d) (place d) (keys d) (drawn d))
 
 -- the lists once it has come
-stored-is : (c : After-replace-2) → c.insert-2.new.elements.items ≡ insert c.into_parts-live.result.live.items c.in-Err.at c.args.e.now
-stored-is c = c.in_ok-insert-2.ensures ∙ ap (λ (x : ElementValue). insert c.into_parts-live.result.live.items c.in-Err.at x) c.in_ok-try_clone.ensures
+stored-is : (c : After-replace-2) → c.insert-2.new.elements.items
+    ≡ insert c.into_parts-live.result.live.items c.in-Err.at c.args.e.now
+stored-is c = c.in_ok-insert-2.ensures
+    ∙ ap (λ (x : ElementValue). insert c.into_parts-live.result.live.items c.in-Err.at x) c.in_ok-try_clone.ensures
 
 shown-is : (c : After-replace-2) → c.set_keys.new.elements.items
-    ≡ rekeyed c.in-Some-2.rekeying.start c.in-Some-2.rekeying.keys (insert (all_put c.in-Some-3.coming.puts.items c.into_parts-live.result.shown.items) c.in-Some.place c.in-Some-3.coming.own)
+    ≡ rekeyed c.in-Some-2.rekeying.start c.in-Some-2.rekeying.keys
+    (insert (all_put c.in-Some-3.coming.puts.items c.into_parts-live.result.shown.items) c.in-Some.place
+    c.in-Some-3.coming.own)
 shown-is c =
     c.in_ok-set_keys.ensures ∙ ap (rekeyed c.in-Some-2.rekeying.start c.in-Some-2.rekeying.keys)
     (c.in_ok-insert.ensures ∙ ap (λ es. insert es c.in-Some.place c.in-Some-3.coming.own) c.put_all.ensures.items)
@@ -93,15 +128,21 @@ joined-requires c =
     record {
       view = subst₂ IsView (sym live_is) (sym shown_is) (view d);
       table = subst (λ ls. HaveRowsOf ls c.replace-2.new.self.rows) (sym live_is)
-          (rows-with c.into_parts-live.result.live.items (insert c.into_parts-live.result.live.items c.in-Err.at c.args.e.now) c.args.e.now c.into_parts-live.result.table.rows new_rows c.replace-2.new.self.rows c.into_parts-live.ensures.are.table none
+          (rows-with c.into_parts-live.result.live.items (insert c.into_parts-live.result.live.items c.in-Err.at
+          c.args.e.now) c.args.e.now c.into_parts-live.result.table.rows new_rows c.replace-2.new.self.rows
+          c.into_parts-live.ensures.are.table none
           (c.in_ok-rows.ensures.exact ∙ ap rows_of c.get-3.ensures)
-          (λ row. c.replace-2.ensures.rows row ∙ ap₂ (λ rs ns. has_row new_rows row || (has_row rs row && not (has_row ns row))) c.in_ok-reserve.ensures.rows c.new.ensures)
+          (λ row. c.replace-2.ensures.rows row
+          ∙ ap₂ (λ rs ns. has_row new_rows row || (has_row rs row && not (has_row ns row)))
+          c.in_ok-reserve.ensures.rows c.new.ensures)
           (replaced d));
-      others = c.settle_all.ensures (subst₂ (AreOthersAsStored c.note_all.new.unsettled) (sym live_is) (sym shown_is) (noted d));
+      others = c.settle_all.ensures (subst₂ (AreOthersAsStored c.note_all.new.unsettled) (sym live_is) (sym shown_is)
+          (noted d));
     }
 
 pub returns : goal.returns
 returns c =
     let d = (goal.at.returns c).After-put_all in
     let live_is = stored-is (goal.at.returns c).After-replace-2 in
-    subst₂ (λ ls ms. HaveReplaced ls (c.args.e.now ∷ []) ms) c.into_parts-live.ensures.same (sym (c.joined.ensures ∙ live_is)) (replaced d)
+    subst₂ (λ ls ms. HaveReplaced ls (c.args.e.now ∷ []) ms) c.into_parts-live.ensures.same
+    (sym (c.joined.ensures ∙ live_is)) (replaced d)

@@ -11,7 +11,8 @@ pub returns-clause-ids : goal.returns-clause-ids
 returns-clause-ids c = rw (← c.self.view_is, c.as_slice.ensures.value) (IsViewOf-from _ _ c.self.invariant.view).ids
 
 pub returns-clause-others : goal.returns-clause-others
-returns-clause-others c = rw (← c.self.view_is, c.as_slice.ensures.value) (IsViewOf-from _ _ c.self.invariant.view).others
+returns-clause-others c =
+    rw (← c.self.view_is, c.as_slice.ensures.value) (IsViewOf-from _ _ c.self.invariant.view).others
 
 pub returns-clause-again : goal.returns-clause-again
 returns-clause-again c = rw c.as_slice.ensures.value (IsViewOf-from _ _ c.self.invariant.view).again

@@ -9,5 +9,7 @@ pub returns-clause-view : goal.returns-clause-view
 returns-clause-view c =
     let stored = c.args.store.now.elements in
     on_ok_weaker c.renew.result
-    (λ is. is ∙ ap live_elements (taken_all-is stored stored c.args.changed.now c.in_ok-store.store.elements (AreStored-itself stored c.in_ok-store.ensures.ordered) c.in_ok-store.ensures.stored))
+    (λ is. is
+    ∙ ap live_elements (taken_all-is stored stored c.args.changed.now c.in_ok-store.store.elements
+    (AreStored-itself stored c.in_ok-store.ensures.ordered) c.in_ok-store.ensures.stored))
     c.renew.ensures.view

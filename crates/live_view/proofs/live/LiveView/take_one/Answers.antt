@@ -8,13 +8,16 @@ use Rattle.live_view.proofs.live.LiveView.take_one.Goals as goal
 use Rattle.live_view.proofs.live.LiveView.take_one.Goals.{After-is_taken}
 
 -- the store takes one element
-one : (c : After-is_taken) → taken_all c.args.changed.now c.args.store.now.elements ≡ taken c.new-item.result c.args.store.now.elements
-one c = ap (λ changed. taken_all changed c.args.store.now.elements) (one_item c.args.changed.now c.new-item.result c.in-len1.len_at_least c.in-len1.len_below c.new-item.is)
+one : (c : After-is_taken) → taken_all c.args.changed.now c.args.store.now.elements
+    ≡ taken c.new-item.result c.args.store.now.elements
+one c = ap (λ changed. taken_all changed c.args.store.now.elements)
+    (one_item c.args.changed.now c.new-item.result c.in-len1.len_at_least c.in-len1.len_below c.new-item.is)
 
 pub returns-then-not-is_taken-clause-new : goal.returns-then-not-is_taken-clause-new
 returns-then-not-is_taken-clause-new c ok =
     c.requires
-    ∙ ap live_elements (sym (not-taken c.new-item.result c.args.store.now.elements (sym c.is_taken.ensures.taken ∙ c.if-not-is_taken.true))
+    ∙ ap live_elements (sym (not-taken c.new-item.result c.args.store.now.elements (sym c.is_taken.ensures.taken
+    ∙ c.if-not-is_taken.true))
     ∙ sym (one (goal.at.returns-then-not-is_taken-clause-new c).After-is_taken))
 
 pub returns-clause-new : goal.returns-clause-new

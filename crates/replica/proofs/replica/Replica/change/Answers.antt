@@ -9,12 +9,22 @@ use Rattle.replica.specs.State.{State}
 use Rattle.replica.proofs.replica.Replica.change.Goals as goal
 
 pub store_given-requires : goal.store_given-requires
-store_given-requires c = record { given = record { command = c.args.command.now; time = c.args.time; nonce = c.args.nonce; is = c.in_ok-given.ensures.given } }
+store_given-requires c = record {
+  given = record {
+    command = c.args.command.now;
+    time = c.args.time;
+    nonce =
+        c.args.nonce;
+    is = c.in_ok-given.ensures.given;
+  };
+}
 
 pub returns-clause-after : goal.returns-clause-after
 returns-clause-after c =
     let new = c.store_given.new.self in
     λ (s : State) st.
     let found : state.outcome_on c.args.command.now c.args.time c.args.nonce s ≡ Ok c.in_ok-given.given =
-    subst (λ (es : List ElementValue). outcome es (shown (live_elements es)) c.args.command.now c.args.time c.args.nonce ≡ Ok c.in_ok-given.given) st.stored c.in_ok-given.ensures.given in
-    subst (λ o. ReplicaStandsFor new (state.after_outcome c.args.capture o s)) (sym found) (c.in_ok-store_given.ensures.after s st)
+    subst (λ (es : List ElementValue). outcome es (shown (live_elements es)) c.args.command.now c.args.time c.args.nonce
+    ≡ Ok c.in_ok-given.given) st.stored c.in_ok-given.ensures.given in
+    subst (λ o. ReplicaStandsFor new (state.after_outcome c.args.capture o s)) (sym found)
+    (c.in_ok-store_given.ensures.after s st)

@@ -9,12 +9,17 @@ invariant_of-self c = (subst IsTold (sym c.plan.ensures.kept) c.self.invariant.0
 
 pub returns-clause-planned : goal.returns-clause-planned
 returns-clause-planned c =
-    planned-seen (told c.self.inside.board) (told c.plan.new.self) c.self.inside.held c.args.self.now c.self.view_is c.self.invariant.0 c.plan.result c.plan.ensures.planned
+    planned-seen (told c.self.inside.board) (told c.plan.new.self) c.self.inside.held c.args.self.now c.self.view_is
+    c.self.invariant.0 c.plan.result c.plan.ensures.planned
 
 pub returns-clause-step : goal.returns-clause-step
 returns-clause-step c =
-    planned-answers (told c.self.inside.board) (told c.plan.new.self) c.self.inside.held c.args.self.now c.self.view_is c.self.invariant.0 c.args.direction c.args.time c.args.nonce c.plan.result c.plan.ensures.planned c.plan.ensures.call
+    planned-answers (told c.self.inside.board) (told c.plan.new.self) c.self.inside.held c.args.self.now c.self.view_is
+    c.self.invariant.0 c.args.direction c.args.time c.args.nonce c.plan.result c.plan.ensures.planned
+    c.plan.ensures.call
 
 pub returns-clause-full : goal.returns-clause-full
 returns-clause-full c =
-    plan-stops (told c.self.inside.board) (told c.plan.new.self) c.self.inside.held c.args.self.now c.self.view_is c.self.invariant.0 c.args.direction c.args.time c.args.nonce c.requires.time c.requires.nonce c.plan.result c.plan.ensures.full
+    plan-stops (told c.self.inside.board) (told c.plan.new.self) c.self.inside.held c.args.self.now c.self.view_is
+    c.self.invariant.0 c.args.direction c.args.time c.args.nonce c.requires.time c.requires.nonce c.plan.result
+    c.plan.ensures.full

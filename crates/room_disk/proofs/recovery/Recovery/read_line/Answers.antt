@@ -5,5 +5,6 @@ pub returns-else-self-eq0-clause-read : goal.returns-else-self-eq0-clause-read
 returns-else-self-eq0-clause-read c =
     let old = c.args.self.now in
     ok-then c.take_update.result
-    (λ taken lines long kept. read-further lines c.args.line.now old.head old.store.elements c.take_update.new.store.elements old.lines long c.if-self-eq0.false kept taken)
+    (λ taken lines long kept. read-further lines c.args.line.now old.head old.store.elements
+    c.take_update.new.store.elements old.lines long c.if-self-eq0.false kept taken)
     c.take_update.ensures.taken

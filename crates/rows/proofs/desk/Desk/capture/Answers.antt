@@ -18,6 +18,7 @@ invariant_of-self-2 c =
     let snapshot = c.self.inside.snapshot.elements in
     let stacks = c.self.inside.history.stacks in (
       subst₂ (IsDesk stored) (sym c.in_ok-entry.ensures.ok) (sym c.in_ok-note.ensures.ok)
-          (noted-desk stored stored snapshot stacks c.in_ok-entry.entry c.in_ok-entry.ensures.entry (captured-desk stored snapshot stacks c.self.invariant.0)),
+          (noted-desk stored stored snapshot stacks c.in_ok-entry.entry c.in_ok-entry.ensures.entry
+          (captured-desk stored snapshot stacks c.self.invariant.0)),
       captured-untouched _ _ stored c.in_ok-entry.ensures.ok,
     )

@@ -8,7 +8,8 @@ use Rattle.rows.proofs.desk.Desk.capture_planned.Goals as goal
 pub invariant_of-self-in_err-note : goal.invariant_of-self-in_err-note
 invariant_of-self-in_err-note c =
     let stored = c.self.inside.store.elements in
-    let is = c.put.ensures ∙ ap (with_all_put c.in_ok-step.step) c.plan_capture.ensures.elements ∙ c.in_ok-step.ensures.step in (
+    let is = c.put.ensures ∙ ap (with_all_put c.in_ok-step.step) c.plan_capture.ensures.elements
+    ∙ c.in_ok-step.ensures.step in (
       subst₂ (IsDesk stored) (sym is) (sym c.in_err-note.ensures.err)
           (captured-desk stored c.self.inside.snapshot.elements c.self.inside.history.stacks c.self.invariant.0),
       captured-untouched _ _ stored is,
@@ -19,8 +20,10 @@ invariant_of-self-2 c =
     let stored = c.self.inside.store.elements in
     let snapshot = c.self.inside.snapshot.elements in
     let stacks = c.self.inside.history.stacks in
-    let is = c.put.ensures ∙ ap (with_all_put c.in_ok-step.step) c.plan_capture.ensures.elements ∙ c.in_ok-step.ensures.step in (
+    let is = c.put.ensures ∙ ap (with_all_put c.in_ok-step.step) c.plan_capture.ensures.elements
+    ∙ c.in_ok-step.ensures.step in (
       subst₂ (IsDesk stored) (sym is) (sym c.in_ok-note.ensures.ok)
-          (noted-desk stored stored snapshot stacks c.in_ok-step.entry c.in_ok-step.ensures.pairs (captured-desk stored snapshot stacks c.self.invariant.0)),
+          (noted-desk stored stored snapshot stacks c.in_ok-step.entry c.in_ok-step.ensures.pairs
+          (captured-desk stored snapshot stacks c.self.invariant.0)),
       captured-untouched _ _ stored is,
     )

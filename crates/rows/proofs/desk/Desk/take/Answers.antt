@@ -24,5 +24,6 @@ invariant_of-self-2 c =
     ))
     (λ back same. (
       subst (λ es. IsDesk es snapshot stacks) (sym same.0) c.self.invariant.0,
-      subst (AreUntouched new snapshot) (sym same.0) (untouched-grown old new snapshot stored c.touch.ensures.kept c.self.invariant.1),
+      subst (AreUntouched new snapshot) (sym same.0) (untouched-grown old new snapshot stored c.touch.ensures.kept
+          c.self.invariant.1),
     ))

@@ -9,4 +9,5 @@ pub returns : goal.returns
 returns c = λ s stands.
     let id = c.args.id.now in
     let added = subst (λ ids. HasAdded ids id c.hold.new.self.held) stands.replica.held c.in_ok-hold.ensures.held in
-    holding-stands c.args.self.now s c.hold.new.self (with_id id s.state.held) stands c.in_ok-hold.ensures.kept (added-is s.state.held id c.hold.new.self.held stands.rising added) added.ordered
+    holding-stands c.args.self.now s c.hold.new.self (with_id id s.state.held) stands c.in_ok-hold.ensures.kept
+    (added-is s.state.held id c.hold.new.self.held stands.rising added) added.ordered

@@ -15,10 +15,16 @@ returns-in_ok-count-in-Ok-Done c = λ s stands.
     let old = c.args.self.now in
     let given = c.in-Ok-Done.given in
     let act = turn_by c.args.direction c.args.time c.args.nonce s.state in
-    let answer = subst (λ step. IsStepAnswer step (turn_on c.args.direction c.args.time c.args.nonce s.state)) c.in-Ok-Done.field-0-is (c.in-Ok-Done.ensures.step s.state stands.replica) in
+    let answer = subst (λ step. IsStepAnswer step (turn_on c.args.direction c.args.time c.args.nonce s.state))
+    c.in-Ok-Done.field-0-is (c.in-Ok-Done.ensures.step s.state stands.replica) in
     subst (λ (h : KeptSeat). IsActed act s (Given given) h) (sym c.in_ok-count-in-Ok-Done.ensures)
-    (acted-stands act old s (Given given) (record { replica = c.turn.new.self; taken = old.taken + length c.as_slice.result.now }) stands
-    (turn-state c.args.direction c.args.time c.args.nonce s.state c.turn.new.self (c.in-Ok-Done.ensures.after s.state stands.replica))
+    (acted-stands act old s (Given given) (record {
+      replica = c.turn.new.self;
+      taken =
+          old.taken + length c.as_slice.result.now;
+    }) stands
+    (turn-state c.args.direction c.args.time c.args.nonce s.state c.turn.new.self
+    (c.in-Ok-Done.ensures.after s.state stands.replica))
     (turn_by-held c.args.direction c.args.time c.args.nonce s.state)
     (ap Given answer.2 ∙ turn-told c.args.direction c.args.time c.args.nonce s.state (Some (Ok answer.0)) answer.1)
     (ap (λ xs. old.taken + length xs) c.as_slice.ensures))
@@ -26,9 +32,12 @@ returns-in_ok-count-in-Ok-Done c = λ s stands.
 pub returns-in-Ok-Nothing : goal.returns-in-Ok-Nothing
 returns-in-Ok-Nothing c = λ s stands.
     let old = c.args.self.now in
-    let answer = subst (λ step. IsStepAnswer step (turn_on c.args.direction c.args.time c.args.nonce s.state)) c.in-Ok-Nothing.field-0-is (c.in-Ok-Nothing.ensures.step s.state stands.replica) in
-    acted-stands (turn_by c.args.direction c.args.time c.args.nonce s.state) old s (Refused None) (record { replica = c.turn.new.self; taken = old.taken }) stands
-    (turn-state c.args.direction c.args.time c.args.nonce s.state c.turn.new.self (c.in-Ok-Nothing.ensures.after s.state stands.replica))
+    let answer = subst (λ step. IsStepAnswer step (turn_on c.args.direction c.args.time c.args.nonce s.state))
+    c.in-Ok-Nothing.field-0-is (c.in-Ok-Nothing.ensures.step s.state stands.replica) in
+    acted-stands (turn_by c.args.direction c.args.time c.args.nonce s.state) old s (Refused None)
+    (record { replica = c.turn.new.self; taken = old.taken }) stands
+    (turn-state c.args.direction c.args.time c.args.nonce s.state c.turn.new.self
+    (c.in-Ok-Nothing.ensures.after s.state stands.replica))
     (turn_by-held c.args.direction c.args.time c.args.nonce s.state)
     (turn-told c.args.direction c.args.time c.args.nonce s.state None answer) (sym (add-zero old.taken))
 
@@ -36,7 +45,11 @@ pub returns-in-Err-Fault : goal.returns-in-Err-Fault
 returns-in-Err-Fault c = λ s stands.
     let old = c.args.self.now in
     let id = c.in-Err-Fault.field-0-0.0 in
-    let told = subst (λ stop. OnFull stop (λ id. (t : State) → ReplicaStandsFor old.replica t → turn_on c.args.direction c.args.time c.args.nonce t ≡ Some (Err id))) c.in-Err-Fault.field-0-is c.in-Err-Fault.ensures.full in
+    let told = subst (λ stop. OnFull stop (λ id. (t : State) → ReplicaStandsFor old.replica t
+    → turn_on c.args.direction c.args.time c.args.nonce t ≡ Some (Err id))) c.in-Err-Fault.field-0-is
+    c.in-Err-Fault.ensures.full in
     let found = told s.state stands.replica in
-    refused-stands (turn_by c.args.direction c.args.time c.args.nonce s.state) old s (Some (VersionFull id)) c.turn.new.self stands c.in-Err-Fault.ensures.err
-    (turn-left c.args.direction c.args.time c.args.nonce s.state id found) (turn-told c.args.direction c.args.time c.args.nonce s.state (Some (Err id)) found)
+    refused-stands (turn_by c.args.direction c.args.time c.args.nonce s.state) old s (Some (VersionFull id))
+    c.turn.new.self stands c.in-Err-Fault.ensures.err
+    (turn-left c.args.direction c.args.time c.args.nonce s.state id found)
+    (turn-told c.args.direction c.args.time c.args.nonce s.state (Some (Err id)) found)

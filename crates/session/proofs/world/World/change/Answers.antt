@@ -8,9 +8,14 @@ use Rattle.session.proofs.world.World.change.Goals as goal
 
 pub returns : goal.returns
 returns c =
-    act-after c.args.self.now c.note.new.self c.args.at c.change.new.self c.in_ok-outcome.outcome (λ w. change_on c.args.command.now c.args.capture c.args.time (nonce_at w c.args.at) (state_at w c.args.at))
-    c.in_ok-note.ensures.seats (c.in_ok-note.ensures.generator ∙ c.draw-nonce.ensures.drawn) c.in_ok-note.ensures.messages c.in_ok-note.ensures.refused c.in_ok-note.ensures.events
+    act-after c.args.self.now c.note.new.self c.args.at c.change.new.self c.in_ok-outcome.outcome
+    (λ w. change_on c.args.command.now c.args.capture c.args.time (nonce_at w c.args.at) (state_at w c.args.at))
+    c.in_ok-note.ensures.seats (c.in_ok-note.ensures.generator
+    ∙ c.draw-nonce.ensures.drawn) c.in_ok-note.ensures.messages c.in_ok-note.ensures.refused
+    c.in_ok-note.ensures.events
     (λ w stands.
-    subst (λ nonce. IsActed (change_on c.args.command.now c.args.capture c.args.time nonce (state_at w c.args.at)) (seat_at w c.args.at) c.in_ok-outcome.outcome c.change.new.self)
+    subst (λ nonce. IsActed (change_on c.args.command.now c.args.capture c.args.time nonce (state_at w c.args.at))
+    (seat_at w c.args.at) c.in_ok-outcome.outcome c.change.new.self)
     (c.draw-nonce.ensures.nonce ∙ ap (λ (g : Lcg). 64 * next_word g + c.args.at) stands.generator)
-    (c.in_ok-outcome.ensures (seat_at w c.args.at) (seat-stands c.args.self.now w c.args.at c.index_mut-seat.result.now stands c.requires.at c.index_mut-seat.ensures.value)))
+    (c.in_ok-outcome.ensures (seat_at w c.args.at) (seat-stands c.args.self.now w c.args.at c.index_mut-seat.result.now
+    stands c.requires.at c.index_mut-seat.ensures.value)))

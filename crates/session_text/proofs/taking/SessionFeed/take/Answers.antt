@@ -12,29 +12,36 @@ take_event-requires c = feed-few c.self.inside.head c.self.inside.events.items c
 pub invariant_of-self : goal.invariant_of-self
 invariant_of-self c =
     let s = c.self.inside in
-    feed-begun s.head c.in_ok-read_header-in-None.field-0 s.events.items s.made c.args.text.now c.in-None.is c.self.invariant c.in_ok-read_header-in-None.ensures.read
+    feed-begun s.head c.in_ok-read_header-in-None.field-0 s.events.items s.made c.args.text.now c.in-None.is
+    c.self.invariant c.in_ok-read_header-in-None.ensures.read
 
 pub invariant_of-self-2 : goal.invariant_of-self-2
 invariant_of-self-2 c =
     let s = c.self.inside in
-    feed-after c.take_event.result s.head c.in-Some.head s.events.items c.take_event.new.events.items s.made c.take_event.new.made c.args.text.now c.in-Some.is c.self.invariant
-    (ap is_full c.self.view_is ∙ c.requires) c.take_event.ensures.taken c.take_event.ensures.events c.take_event.ensures.made
+    feed-after c.take_event.result s.head c.in-Some.head s.events.items c.take_event.new.events.items s.made
+    c.take_event.new.made c.args.text.now c.in-Some.is c.self.invariant
+    (ap is_full c.self.view_is ∙ c.requires) c.take_event.ensures.taken c.take_event.ensures.events
+    c.take_event.ensures.made
 
 pub returns-clause-json : goal.returns-clause-json
-returns-clause-json c fault e = event_text-form c.in-Some.head.replicas c.self.inside.made c.args.text.now fault (c.take_event.ensures.fault (Json fault) e)
+returns-clause-json c fault e = event_text-form c.in-Some.head.replicas c.self.inside.made c.args.text.now fault
+    (c.take_event.ensures.fault (Json fault) e)
 
 pub returns-in-None-clause-taken : goal.returns-in-None-clause-taken
 returns-in-None-clause-taken c =
     let s = c.self.inside in
-    takes-header s.head c.in_ok-read_header-in-None.field-0 s.events.items s.made c.args.text.now c.args.self.now c.self.view_is c.in-None.is c.self.invariant c.in_ok-read_header-in-None.ensures.read
+    takes-header s.head c.in_ok-read_header-in-None.field-0 s.events.items s.made c.args.text.now c.args.self.now
+    c.self.view_is c.in-None.is c.self.invariant c.in_ok-read_header-in-None.ensures.read
 
 pub returns-clause-taken : goal.returns-clause-taken
 returns-clause-taken c =
     let s = c.self.inside in
-    takes-event c.take_event.result s.head c.in-Some.head s.events.items c.take_event.new.events.items s.made c.take_event.new.made c.args.text.now c.args.self.now c.self.view_is c.in-Some.is c.self.invariant
+    takes-event c.take_event.result s.head c.in-Some.head s.events.items c.take_event.new.events.items s.made
+    c.take_event.new.made c.args.text.now c.args.self.now c.self.view_is c.in-Some.is c.self.invariant
     c.take_event.ensures.taken
 
 pub returns-clause-fault : goal.returns-clause-fault
 returns-clause-fault c fault e =
     let s = c.self.inside in
-    faulty-event s.head c.in-Some.head s.events.items s.made c.args.text.now c.args.self.now fault c.self.view_is c.in-Some.is c.self.invariant (c.take_event.ensures.fault fault e)
+    faulty-event s.head c.in-Some.head s.events.items s.made c.args.text.now c.args.self.now fault c.self.view_is
+    c.in-Some.is c.self.invariant (c.take_event.ensures.fault fault e)

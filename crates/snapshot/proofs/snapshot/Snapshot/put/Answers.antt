@@ -7,4 +7,5 @@ use Rattle.snapshot.proofs.snapshot.Snapshot.put.Goals as goal
 
 pub invariant_of-self : goal.invariant_of-self
 invariant_of-self c =
-    ap (λ es. are_rising (ids_of es)) c.put_all.ensures ∙ all-rise c.step.inside.elements.items c.self.inside.elements.items c.self.invariant
+    ap (λ es. are_rising (ids_of es)) c.put_all.ensures
+    ∙ all-rise c.step.inside.elements.items c.self.inside.elements.items c.self.invariant
