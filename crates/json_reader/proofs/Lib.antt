@@ -4,6 +4,7 @@ mod NumberRuns
 mod Sequences
 mod Digits
 mod Steps
+mod Numbers
 mod ValueRuns
 mod Moves
 pub mod FirstFaults

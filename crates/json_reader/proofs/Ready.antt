@@ -6,7 +6,8 @@ use Rattle.std.proofs.lemmas.Bool.Decides.{nat_tests}
 use Rattle.std.proofs.lemmas.Grind.{flat_map-append}
 use Rattle.std.proofs.Math.Nat.{add-sub_cancel}
 use Rattle.std.proofs.lemmas.Simd.{map-map}
-use Rattle.json_text.specs.Characters.{is_space, is_blank, is_plain, is_digit, quote, quoted_byte}
+use Rattle.json_text.specs.Value.{extends_number}
+use Rattle.json_text.specs.Characters.{is_space, is_blank, is_plain, quote, quoted_byte}
 use Rattle.json_text.specs.Compact.{Member, content, compact, members, collapsed, label_name, member_text, array_text, object_text, has_other_name, last_value}
 use Rattle.json_text.specs.Walk.{inside, Quoted}
 use Rattle.json_text.specs.Tree.{Piece, bare, letter, unit, IsPiece, piece_spelling, string_spelling, array, object, Label, unnamed, named, IsLabel, label_spelling, Tree, scalar, text, empty, filled, Values, last, next, spelling, values_spelling, IsGood, AreGood}
@@ -333,12 +334,12 @@ module _ (written : List ℕ) where
         (plain-first b xs s escaped escapes d ds plain.0
         (plains xs (s ++ b ∷ []) escapes d ds (all-pass is_plain is_plain (λ x e. e) xs plain.1)) more).1
 
-    -- outside strings white space is dropped, and digits are appended
+    -- outside strings white space is dropped, and what stands in numbers is appended
     pub stretch-appended : AreAlike ground.Between (b ∷ xs) → is_space b ≡ false → Is (between d ds) (b ∷ xs ++ more)
         → Is (between (grown d (b ∷ xs)) ds) more
     stretch-appended (inl blank) solid = absurd (false≢true (sym solid ∙ blank.0))
     stretch-appended (inr digits) solid =
-        (literals (b ∷ xs) d ds (all-pass is_digit is_part_of_literal (λ x digit. grind (arith, nat_tests)) (b ∷ xs)
+        (literals (b ∷ xs) d ds (all-pass extends_number is_part_of_literal (λ x part. grind (arith, nat_tests)) (b ∷ xs)
         digits) more).1
 
     pub stretch-dropped : AreAlike ground.Between (b ∷ xs) → is_space b ≡ true → Is (between d ds) (b ∷ xs ++ more)

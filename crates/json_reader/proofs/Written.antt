@@ -8,7 +8,7 @@ use Rattle.json_reader.specs.Machine.{Machine, To, state, top, moved}
 use Rattle.std.specs.List.{AllByRecursion}
 use Rattle.json_reader.specs.Writing.{Writer, between, deed_at, Ready, HasWritten, stretch, writing_at, Fits, Can, HasPut, HasRead, Ends, Came, GoesOn}
 use Rattle.json_reader.specs.declared.reader.Taken.TheVariants as taken
-use Rattle.json_reader.proofs.Steps.{run, start}
+use Rattle.json_reader.proofs.Steps.{run, start, run-append}
 use Rattle.json_reader.proofs.ValueRuns.{runs_begins}
 use Rattle.json_reader.proofs.Outcomes.{parted, one_more, stretch_more, whole_value, read_on, stayed, ends_stands}
 use Rattle.json_reader.proofs.Ready.{blank-ready, tree-ready}
@@ -79,6 +79,16 @@ module _ (bytes : List ℕ) (at next : ℕ) (machine : Machine) (writer : Writer
   has_passed end new up high stays ready fits =
       onward end machine new up high (stayed bytes at next read.low machine.mode machine.brackets read.runs end up
       stays) fits ready
+
+  -- a stretch over which the machine runs
+  pub has_run : (end : ℕ) (after : Machine) (new : Writer) → next ≤ end → end ≤ length bytes
+      → run 128 (state machine.mode machine.brackets) (stretch bytes next end) ≡ state after.mode after.brackets
+      → ((text more : List ℕ) → Ready text (writing_at bytes next writer) (stretch bytes next end ++ more)
+      → Ready text (writing_at bytes end new) more) → Fits end new
+      → HasRead bytes at end after new
+  has_run end after new up high ran ready fits =
+      onward end after new up high (rw (stretch_more bytes at next read.low end up, run-append, read.runs) ran) fits
+      ready
 
   -- a byte that the machine takes can be written, and is read then
   module _ (after : Machine) (high : next < length bytes) (goes : GoesOn machine (get_or bytes next 0) after) where

@@ -1,6 +1,6 @@
 -- What each byte does to the machine that reads a value. This project's own, over the grammar of
 -- RFC 8259. Only contracts of private functions cite this.
-use Rattle.std.specs.Prelude.{◌≡◌, ℕ, zero, suc, ◌+◌, ◌-◌, Option, Some, None, List, [], ◌∷◌, length, drop, slice_index, is_none, Bool, true, false, not, ◌&&◌, ◌||◌, ◌==◌, nat_lt, nat_le, if◌then◌else◌}
+use Rattle.std.specs.Prelude.{◌≡◌, ℕ, zero, suc, ◌+◌, ◌-◌, Option, Some, None, List, [], ◌∷◌, length, drop, slice_index, is_none, Bool, true, false, not, ◌&&◌, ◌||◌, ◌==◌, nat_lt, nat_le, if◌then◌else◌, option_and_then}
 use Rattle.json_text.specs.Characters.{is_space, is_digit, is_hex}
 use Rattle.json_text.specs.Tree.{Container, array, object, closing, letter_meaning}
 use Rattle.json_text.specs.Value.{extends_number}
@@ -49,6 +49,11 @@ part_after Exponent b = if is_digit b then Some Exponent else None
 -- the part that this byte begins a number with
 abbrev pub part_begun : ℕ → Option Part
 part_begun b = if b == 45 then Some Minus else part_after Minus b
+
+-- the part that a number has come to after these bytes, if it goes on with each
+abbrev pub parts_after : Part → List ℕ → Option Part
+parts_after part [] = Some part
+parts_after part (b ∷ bytes) = option_and_then (λ next. parts_after next bytes) (part_after part b)
 
 -- a number may end after this part
 abbrev pub is_complete : Part → Bool

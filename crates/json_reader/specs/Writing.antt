@@ -2,11 +2,11 @@
 -- functions cite this. This project's own, over RFC 8259, sections 2 to 7.
 use Rattle.std.specs.Prelude.{◌≡◌, ℕ, ◌+◌, ◌-◌, ◌<◌, ◌≤◌, length, take, drop, slice_get, slice_index, slice_index_or, List, [], ◌∷◌, ◌++◌, Option, None, Some, Bool, true, false, ◌==◌, ◌&&◌, ◌⊎◌, if◌then◌else◌}
 use Rattle.std.specs.List.{AllByRecursion}
-use Rattle.json_text.specs.Characters.{is_space, is_blank, is_plain, is_digit, quote}
+use Rattle.json_text.specs.Characters.{is_space, is_blank, is_plain, quote}
 use Rattle.json_text.specs.Compact.{compact}
 use Rattle.json_text.specs.Walk.{Place, outside, inside, place_of, Quoted}
 use Rattle.json_text.specs.Tree.{Tree, IsGood, spelling}
-use Rattle.json_text.specs.Value.{Stands}
+use Rattle.json_text.specs.Value.{Stands, extends_number}
 use Rattle.json_reader.specs.Drafts.{Drafted, fresh, grown, named, parted, closed, IsWhole}
 use Rattle.json_reader.specs.Machine.{Bracket, JsonFault, Machine, Mode, state, ended, refused, top, step, fault_of}
 use Rattle.json_reader.specs.Runs.{run, start, is_over, IsKept}
@@ -122,7 +122,7 @@ ground_of w = if w.quoted then ground.Quoted else ground.Between
 abbrev pub AreAlike : Ground → List ℕ → Type 0
 AreAlike ground.Quoted bytes = AllByRecursion (λ b. is_plain b ≡ true) bytes
 AreAlike ground.Between bytes = AllByRecursion (λ b. is_space b ≡ true) bytes
-    ⊎ AllByRecursion (λ b. is_digit b ≡ true) bytes
+    ⊎ AllByRecursion (λ b. extends_number b ≡ true) bytes
 
 -- the writer with the bytes before an offset copied
 abbrev pub copied : List ℕ → ℕ → Writer → Writer

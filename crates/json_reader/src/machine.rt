@@ -8,13 +8,13 @@ ghost use Rattle.std.specs.List.{AllByRecursion};
 ghost use Rattle.json_text.specs.Characters.{is_space, is_hex};
 ghost use Rattle.json_text.specs.Tree.{opening, closing};
 ghost use Rattle.json_reader.specs.Machine.{container_of, first_move, closes_bracket, after_comma, after_string, value_begun, after_move, led_on, tail_led, string_move, first_letter, after_letter, moved, string_fault, bracket_fault, fault_of, top, step, state, ended, Stepped};
-ghost use Rattle.json_reader.specs.Runs.{is_over};
-ghost use Rattle.json_reader.specs.Writing.{AreAlike};
+ghost use Rattle.json_reader.specs.Runs.{is_over, run};
+ghost use Rattle.json_reader.specs.Writing.{AreAlike, stretch};
 ghost use Rattle.json_reader.specs.declared.machine.Move.TheVariants.{To};
 
 use crate::brackets::{Bracket, Brackets};
 use crate::fault::JsonFault;
-use crate::number::{Part, extends_number};
+use crate::number::{Part, extends_number, number_end};
 use crate::sequence::Tail;
 use crate::staying::{Ground, stay_end};
 use json_text::is_space;
@@ -149,6 +149,25 @@ impl Machine {
         ensures alike { AreAlike ground (take (result - at) (drop at bytes.now)) }
     {
         stay_end(self.mode, self.brackets.top(), ground, bytes, at)
+    }
+
+    /// Takes what is left of a number, if one is under way on this ground: as many bytes from an
+    /// offset on as it goes on with. It gives the offset after them.
+    #[tactic(auto, using(crate::proofs::Numbers::number_steps))]
+    #[inline(always)]
+    pub(crate) fn pass_number(&mut self, ground: Ground, bytes: &[u8], at: usize) -> usize
+        requires { at ≤ length bytes.now }
+        ensures within { (at ≤ result) × (result ≤ length bytes.now) }
+        ensures ran { run 128 (state self.old.mode self.old.brackets) (stretch bytes.now at result)
+            ≡ state self.new.mode self.new.brackets }
+        ensures alike { AreAlike ground (stretch bytes.now at result) }
+    {
+        let (Ground::Between, Mode::Number(part)) = (ground, self.mode) else {
+            return at;
+        };
+        let (last, end) = number_end(part, bytes, at);
+        self.mode = Mode::Number(last);
+        end
     }
 
     /// Takes a quote, if a string begins with it.

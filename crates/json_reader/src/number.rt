@@ -1,8 +1,9 @@
 //! The literal of a number, byte by byte.
 
-ghost use Rattle.std.specs.Prelude.{◌≡◌};
+ghost use Rattle.std.specs.Prelude.{◌≡◌, ◌≤◌, Some, length};
 ghost use Rattle.json_text.specs.Value.{extends_number};
-ghost use Rattle.json_reader.specs.Machine.{part_begun, part_after, after_whole, after_fraction, is_complete};
+ghost use Rattle.json_reader.specs.Machine.{part_begun, part_after, parts_after, after_whole, after_fraction, is_complete};
+ghost use Rattle.json_reader.specs.Writing.{stretch};
 
 /// The part of a number that came last.
 #[derive(Clone, Copy)]
@@ -30,6 +31,7 @@ impl Part {
     }
 
     /// The part that the number has come to after one more byte.
+    #[inline(always)]
     pub(crate) fn after(self, byte: u8) -> Option<Part>
         ensures { result ≡ part_after self byte }
     {
@@ -106,4 +108,22 @@ pub(crate) fn extends_number(byte: u8) -> bool
     ensures { result ≡ extends_number byte }
 {
     matches!(byte, b'0'..=b'9' | b'.' | b'e' | b'E' | b'+' | b'-')
+}
+
+/// The part that a number has come to which goes on from an offset as far as it can, and the offset
+/// after it.
+#[inline(always)]
+pub(crate) fn number_end(part: Part, bytes: &[u8], at: usize) -> (Part, usize)
+    requires { at ≤ length bytes.now }
+    ensures within { (at ≤ result.1) × (result.1 ≤ length bytes.now) }
+    ensures part { parts_after part (stretch bytes.now at result.1) ≡ Some result.0 }
+{
+    let mut last = part;
+    for i in at..bytes.len() {
+        match last.after(bytes[i]) {
+            Some(next) => last = next,
+            None => return (last, i),
+        }
+    }
+    (last, bytes.len())
 }

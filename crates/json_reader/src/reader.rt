@@ -219,7 +219,7 @@ fn take_next(
                 return Ok(at);
             }
             put(alloc, machine, writer, bytes, at, bytes[at])?;
-            pass(machine, writer, bytes, at + 1)
+            pass_number(machine, writer, bytes, at + 1)
         }
         byte => {
             if !machine.follow(byte) {
@@ -256,6 +256,24 @@ fn finish_string(
     }
     put(alloc, machine, writer, bytes, next, bytes[next])?;
     Ok(next + 1)
+}
+
+/// Takes what is left of a number that is under way at an offset, and gives the offset after it.
+#[inline(always)]
+fn pass_number(
+    machine: &mut Machine,
+    writer: &mut Writer,
+    bytes: &[u8],
+    at: usize,
+) -> Result<usize, AllocError>
+    requires within { at ≤ length bytes.now }
+    requires fits { Fits at writer.old }
+    ensures { IfOk result (λ end. ReadsOn bytes.now at machine.old writer.old end machine.new
+        writer.new) }
+{
+    let end = machine.pass_number(writer.ground(), bytes, at);
+    writer.put_all(bytes, at, end)?;
+    Ok(end)
 }
 
 /// Takes the stretch from `at` on that leaves the machine as it is, and gives the offset after it.

@@ -8,8 +8,8 @@ finish_string-requires c = (
       (rw c.in-34.is (c.if-not-begin_string.ensures.taken refl)),
 )
 
-pub pass-requires-clause-fits : goal.pass-requires-clause-fits
-pass-requires-clause-fits c =
+pub pass_number-requires-clause-fits : goal.pass_number-requires-clause-fits
+pass_number-requires-clause-fits c =
     (c.in_ok-put-in-45-to-57.ensures c.requires.read.0 c.args.machine.now c.requires.read.1
     (c.if-not-begin_part.ensures.taken refl)).fits
 
