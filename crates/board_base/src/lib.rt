@@ -3,6 +3,7 @@
 
 mod bytes;
 mod each;
+mod front;
 mod list;
 mod order;
 mod piece;
@@ -10,6 +11,7 @@ mod stop;
 
 pub use bytes::Bytes;
 pub use each::change_each;
+pub use front::{Front, Fronted, front_of};
 pub use list::List;
 pub use order::bytes_order;
 pub use piece::Piece;

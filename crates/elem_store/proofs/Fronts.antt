@@ -1,34 +1,11 @@
 -- Ids whose fronts differ compare as these do.
-use Rattle.std.proofs.Common.{◌≡◌, ◌≢◌, ℕ, zero, suc, List, [], ◌∷◌, Some, map, slice_get, Ordering, Less, Equal, Greater, nat_cmp, ap, ◌∙◌, arith}
+use Rattle.std.proofs.Common.{◌≡◌, ◌≢◌, ℕ, zero, suc, List, [], ◌∷◌, Some, map, slice_get, Ordering, Equal, nat_cmp, ap, ◌∙◌}
 use Rattle.std.specs.Cmp.Lexicographic.{slice_cmp}
-use Rattle.std.specs.Cmp.{nat_cmp_is}
-use Rattle.std.specs.Ordering.{ordering_then}
+use Rattle.board_base.specs.Fronts.{front_of}
+use Rattle.board_base.proofs.CallerLemmas.{fronts-decide}
 use Rattle.elem.specs.ElementValue.{ElementValue}
-use Rattle.elem_store.specs.Fronts.{front, front_of, front_at}
+use Rattle.elem_store.specs.Fronts.{front_at}
 use Rattle.elem_store.specs.Places.{order_at}
-
-module _ (c : Ordering) (apart : Equal ≢ c) where
-  then_same : (o p q : Ordering) → (p ≡ c → q ≡ c) → ordering_then o p ≡ c → ordering_then o q ≡ c
-  then_same Less p q same h = h
-  then_same Equal p q same h = same h
-  then_same Greater p q same h = h
-
-  shorter : (b : List ℕ) → slice_cmp nat_cmp [] b ≡ c → Less ≡ c
-  shorter [] h = absurd (apart h)
-  shorter (y ∷ b) h = h
-
-  longer : (a : List ℕ) → slice_cmp nat_cmp a [] ≡ c → Greater ≡ c
-  longer [] h = absurd (apart h)
-  longer (x ∷ a) h = h
-
-  pub fronts-decide : (n : ℕ) (a b : List ℕ) → slice_cmp nat_cmp (front n a) (front n b) ≡ c → slice_cmp nat_cmp a b ≡ c
-  fronts-decide zero a b h = absurd (apart h)
-  fronts-decide (suc n) [] [] h = fronts-decide n [] [] h
-  fronts-decide (suc n) [] (zero ∷ b) h = shorter b (fronts-decide n [] b h)
-  fronts-decide (suc n) [] (suc y ∷ b) h = rw (← nat_cmp_is 0 (suc y) Less (omega arith)) at h
-  fronts-decide (suc n) (zero ∷ a) [] h = longer a (fronts-decide n a [] h)
-  fronts-decide (suc n) (suc x ∷ a) [] h = rw (← nat_cmp_is (suc x) 0 Greater (omega arith)) at h
-  fronts-decide (suc n) (x ∷ a) (y ∷ b) h = then_same (nat_cmp x y) _ _ (fronts-decide n a b) h
 
 -- an element is told apart from an id by its front
 pub placed-decides : (c : Ordering) → Equal ≢ c → (elements : List ElementValue) (place : ℕ) (id known : List ℕ)

@@ -1,18 +1,15 @@
 //! Elements as they came, with the first bytes of their ids beside them.
 
-ghost use Rattle.std.specs.Prelude.{◌≡◌, ◌+◌, ◌-◌, ◌<◌, ◌≤◌, [], ◌∷◌, ◌++◌, length, slice_get, slice_set, slice_index_or, option_copied, map, Some, IfOk, IfErr, OnOk, IsOk};
-ghost use Rattle.elem_store.specs.Fronts.{front_of};
+ghost use Rattle.std.specs.Prelude.{◌≡◌, ◌+◌, ◌-◌, ◌<◌, ◌≤◌, [], ◌∷◌, ◌++◌, length, slice_get, slice_set, option_copied, map, Some, IfOk, IfErr, OnOk, IsOk};
+ghost use Rattle.board_base.specs.Fronts.{front_of};
 ghost use Rattle.elem_store.specs.Places as places;
 
-use board_base::bytes_order;
+use board_base::{Front, bytes_order, front_of};
 use elem::Element;
 use json_text::Text;
 use std::alloc::{AllocError, Global};
 use std::cmp::Ordering;
 use std::marker::Model;
-
-/// The first bytes of an id, and zeros where it is shorter.
-pub(crate) type Front = [u8; 8];
 
 /// Elements as they came. Beside them stand the fronts of their ids, which are close together in
 /// memory, so that ids are mostly told apart without a look at an element.
@@ -175,30 +172,4 @@ fn front_at(fronts: &Vec<Front>, place: usize) -> Option<Front>
     ensures { result ≡ slice_get fronts.now.items place }
 {
     fronts.get(place).copied()
-}
-
-/// The front of an id.
-pub(crate) fn front_of(id: &[u8]) -> Front
-    ensures { result ≡ front_of id.now }
-{
-    [
-        byte_at(id, 0),
-        byte_at(id, 1),
-        byte_at(id, 2),
-        byte_at(id, 3),
-        byte_at(id, 4),
-        byte_at(id, 5),
-        byte_at(id, 6),
-        byte_at(id, 7),
-    ]
-}
-
-/// The byte at an offset, or 0 behind the end.
-fn byte_at(id: &[u8], at: usize) -> u8
-    ensures { result ≡ slice_index_or id.now at 0 }
-{
-    match id.get(at) {
-        Some(byte) => *byte,
-        None => 0,
-    }
 }

@@ -69,7 +69,7 @@ pub less-order : IsStrictWeakOrder (λ a b. is_lt (slice_cmp nat_cmp a b))
 less-order = ranks_by nat_list_cmp_total (λ a. a)
 
 pub row_less-order : IsStrictWeakOrder row_less
-row_less-order = ranks_by nat_list_cmp_total (λ (row : Row). row.key.now)
+row_less-order = ranks_by nat_list_cmp_total (λ (row : Row). row.key)
 
 le_is : (o : Ordering) → is_le o ≡ not (is_lt (ordering_reverse o))
 le_is Less = refl
@@ -110,18 +110,18 @@ module _ {X : Type 0} (id_of : X → List ℕ) (xs : List X) (key : List ℕ)
 
 -- whether a row's id is less than another one, and whether it isn't greater
 abbrev pub is_below : List ℕ → Row → Bool
-is_below key row = is_less key row.key.now
+is_below key row = is_less key row.key
 
 abbrev pub is_up_to : List ℕ → Row → Bool
-is_up_to key row = is_not_greater key row.key.now
+is_up_to key row = is_not_greater key row.key
 
 pub below-partitioned : (rows : List Row) (key : List ℕ) → IsSortedBy row_less rows
     → IsPartitionedBy (is_below key) rows
-below-partitioned rows key up = less-partitioned (λ (row : Row). row.key.now) rows key up
+below-partitioned rows key up = less-partitioned (λ (row : Row). row.key) rows key up
 
 pub up_to-partitioned : (rows : List Row) (key : List ℕ) → IsSortedBy row_less rows
     → IsPartitionedBy (is_up_to key) rows
-up_to-partitioned rows key up = not_greater-partitioned (λ (row : Row). row.key.now) rows key up
+up_to-partitioned rows key up = not_greater-partitioned (λ (row : Row). row.key) rows key up
 
 pub before_is : (o : Ordering) → is_lt o ≡ true → is_eq o ≡ false
 before_is o h = grind arith
@@ -143,23 +143,23 @@ turned_eq Greater = refl
 pub bytes_eq-cmp : (a b : List ℕ) → bytes_eq a b ≡ is_eq (slice_cmp nat_cmp b a)
 bytes_eq-cmp a b = texts_ties a b ∙ ap is_eq (nat_list_cmp_total.antisymm a b) ∙ turned_eq (slice_cmp nat_cmp b a)
 
-under_is : (key : List ℕ) (row : Row) → is_under key row ≡ is_eq (slice_cmp nat_cmp row.key.now key)
-under_is key row = bytes_eq-cmp key row.key.now
+under_is : (key : List ℕ) (row : Row) → is_under key row ≡ is_eq (slice_cmp nat_cmp row.key key)
+under_is key row = bytes_eq-cmp key row.key
 
 module _ (rows : List Row) (key : List ℕ) (a b : ℕ)
     (start : IsPartitionPoint (λ row. is_below key row ≡ true) (λ row. is_below key row ≡ false) rows a)
     (end' : IsPartitionPoint (λ row. is_up_to key row ≡ true) (λ row. is_up_to key row ≡ false) rows b) where
   pub rows-between : take (b - a) (drop a rows) ≡ filter (is_under key) rows
   rows-between =
-      between-filter (is_below key) (is_up_to key) (λ row. is_eq (slice_cmp nat_cmp row.key.now key))
+      between-filter (is_below key) (is_up_to key) (λ row. is_eq (slice_cmp nat_cmp row.key key))
       (λ row h. before_is _ h) (λ row h k. at_is _ h k) (λ row h. behind_is _ h) (λ row h. less_is _ h) rows a b start
       end'
-      ∙ filter_agree (λ row. is_eq (slice_cmp nat_cmp row.key.now key)) (is_under key) (λ row. sym (under_is key row))
+      ∙ filter_agree (λ row. is_eq (slice_cmp nat_cmp row.key key)) (is_under key) (λ row. sym (under_is key row))
       rows
 
   pub rows-ordered : a ≤ length rows → a ≤ b
   rows-ordered l =
-      turns-ordered (is_below key) (is_up_to key) (λ row. is_eq (slice_cmp nat_cmp row.key.now key))
+      turns-ordered (is_below key) (is_up_to key) (λ row. is_eq (slice_cmp nat_cmp row.key key))
       (λ row h. before_is _ h) (λ row h k. at_is _ h k) (λ row h. behind_is _ h) (λ row h. less_is _ h) rows a b l start
       end'
 
@@ -195,7 +195,7 @@ blank = record {
 }
 
 row_at : List ℕ → Row
-row_at key = record { key = record { ref_ptr = (0, 0); now = key }; element = record { ref_ptr = (0, 0); now = blank } }
+row_at key = record { key = key; element = record { ref_ptr = (0, 0); now = blank } }
 
 ties_are : (o : Ordering) → (not (is_lt (ordering_reverse o)) && not (is_lt o)) ≡ is_eq o
 ties_are Less = refl
@@ -205,9 +205,9 @@ ties_are Greater = refl
 ties-under : (key : List ℕ) (row : Row) → ties row_less (row_at key) row ≡ is_under key row
 unfolding row_at
 ties-under key row =
-    ap (λ o. not (is_lt o) && not (is_lt (slice_cmp nat_cmp row.key.now key)))
-    (nat_list_cmp_total.antisymm key row.key.now)
-    ∙ ties_are (slice_cmp nat_cmp row.key.now key) ∙ sym (under_is key row)
+    ap (λ o. not (is_lt o) && not (is_lt (slice_cmp nat_cmp row.key key)))
+    (nat_list_cmp_total.antisymm key row.key)
+    ∙ ties_are (slice_cmp nat_cmp row.key key) ∙ sym (under_is key row)
 
 pub kept-under : (rows new : List Row) → IsStableBy row_less rows new → (key : List ℕ)
     → filter (is_under key) new ≡ filter (is_under key) rows

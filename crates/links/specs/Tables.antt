@@ -17,13 +17,13 @@ use Rattle.links.specs.Entries.{lists, arrow_entry, text_entry}
 use Rattle.links.specs.Names.{target_of, names_container}
 
 abbrev pub is_under : List ℕ → Row → Bool
-is_under key row = bytes_eq key row.key.now
+is_under key row = bytes_eq key row.key
 
 abbrev pub row_element : Row → ElementValue
 row_element row = row.element.now
 
 abbrev pub row_less : Row → Row → Bool
-row_less row other = bytes_less row.key.now other.key.now
+row_less row other = bytes_less row.key other.key
 
 -- the elements under an id
 abbrev pub elements_under : List ℕ → List Row → List ElementValue

@@ -8,6 +8,7 @@ ghost use Rattle.links.specs.Tables.{row_element, Adds, IsTable};
 
 use crate::parts::{container_of, id_of, is_arrow, is_text};
 use crate::table::{Row, rows_under, sorted};
+use board_base::Fronted;
 use elem::{Binding, Element};
 use json_text::Text;
 use std::alloc::{AllocError, Global};
@@ -88,7 +89,7 @@ impl<'a> Names<'a> {
 fn add_id<'a>(rows: &mut Vec<Row<'a>>, element: &'a Element) -> Result<(), AllocError>
     ensures { OnOk result (Adds has_id element.now rows.old.items rows.new.items) }
 {
-    let key = id_of(element).as_bytes();
+    let key = Fronted::new(id_of(element).as_bytes());
     rows.push(Row { key, element })?;
     Ok(())
 }
@@ -114,7 +115,7 @@ pub(crate) fn add_under<'a>(
         rows.new.items) }
 {
     if let Some(key) = key {
-        let key = key.as_bytes();
+        let key = Fronted::new(key.as_bytes());
         rows.push(Row { key, element })?;
     }
     Ok(())
@@ -129,10 +130,10 @@ fn add_ends<'a>(rows: &mut Vec<Row<'a>>, element: &'a Element) -> Result<(), All
     }
     match ends_of(element) {
         (Some(start), Some(end)) => {
-            let key = start.as_bytes();
+            let key = Fronted::new(start.as_bytes());
             rows.push(Row { key, element })?;
             if start != end {
-                let key = end.as_bytes();
+                let key = Fronted::new(end.as_bytes());
                 rows.push(Row { key, element })?;
             }
         }

@@ -5,16 +5,16 @@ ghost use Rattle.std.specs.List.Sorted.{IsSortedBy};
 ghost use Rattle.std.specs.Ordering.{is_lt};
 ghost use Rattle.links.specs.Tables.{is_under, row_less};
 
-use board_base::bytes_order;
+use board_base::Fronted;
 use elem::Element;
 use json_text::Text;
 use std::alloc::AllocError;
 use std::cmp::Ordering;
 
 /// An element under an id.
-#[derive(Clone, Copy)]
+#[derive(Drop)]
 pub(crate) struct Row<'a> {
-    pub(crate) key: &'a [u8],
+    pub(crate) key: Fronted<'a>,
     pub(crate) element: &'a Element,
 }
 
@@ -32,7 +32,7 @@ pub(crate) fn sorted<'a>(mut rows: Vec<Row<'a>>) -> Result<Vec<Row<'a>>, AllocEr
 fn by_key(row: &Row<'_>, other: &Row<'_>) -> Ordering
     ensures { is_lt result ≡ row_less row.now other.now }
 {
-    bytes_order(row.key, other.key)
+    row.key.order(&other.key)
 }
 
 /// The rows under an id. It takes no memory.
@@ -40,22 +40,22 @@ pub(crate) fn rows_under<'r, 'a>(rows: &'r Vec<Row<'a>>, key: &Text) -> &'r [Row
     requires { IsSortedBy row_less rows.now.items }
     ensures { result.now ≡ filter (is_under key.now) rows.now.items }
 {
-    let (start, end) = ends_under(rows, key.as_bytes());
+    let (start, end) = ends_under(rows, &Fronted::new(key.as_bytes()));
     &rows[start..end]
 }
 
 /// Where the rows under an id start and end.
-fn ends_under(rows: &Vec<Row<'_>>, key: &[u8]) -> (usize, usize)
+fn ends_under(rows: &Vec<Row<'_>>, key: &Fronted<'_>) -> (usize, usize)
     requires { IsSortedBy row_less rows.now.items }
     ensures ordered { result.0 ≤ result.1 }
     ensures within { result.1 ≤ length rows.now.items }
     ensures among { slice_range rows.now.items result.0 result.1
         ≡ filter (is_under key.now) rows.now.items }
 {
-    let start = rows.partition_point(|row| bytes_order(row.key, key).is_lt());
+    let start = rows.partition_point(|row| row.key.order(key).is_lt());
     match rows.get(start) {
-        Some(row) if bytes_order(row.key, key).is_le() => {
-            let end = rows.partition_point(|row| bytes_order(row.key, key).is_le());
+        Some(row) if row.key.order(key).is_le() => {
+            let end = rows.partition_point(|row| row.key.order(key).is_le());
             (start, end)
         }
         _ => (start, start),

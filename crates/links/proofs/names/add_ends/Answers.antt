@@ -10,16 +10,14 @@ pub returns-in_ok-push-in-Some-Some-2 : goal.returns-in_ok-push-in-Some-Some-2
 returns-in_ok-push-in-Some-Some-2 c =
     let e = c.args.element.now in
     let arrow : words.is_arrow e.kind ≡ true = cc in
-    let start = c.as_bytes-key.result in
-    let end = c.as_bytes-key-then-ne.result in
-    let row : Row = record { key = start; element = c.args.element } in
-    let other : Row = record { key = end; element = c.args.element } in
+    let start = c.new-key.ensures ∙ c.as_bytes.ensures.value in
+    let end = c.new-key-then-ne.ensures ∙ c.as_bytes-then-ne.ensures.value in
+    let row : Row = record { key = c.new-key.result; element = c.args.element } in
+    let other : Row = record { key = c.new-key-then-ne.result; element = c.args.element } in
     Adds-two words.has_end_at e c.args.rows.now.items _ row other refl refl
-    (has_end_at-both e start.now end.now arrow (sym c.ends_of.ensures.start ∙ ap option_copied c.in-Some-Some.is-0
-    ∙ ap Some (sym c.as_bytes-key.ensures.value)) (sym c.ends_of.ensures.end_ ∙ ap option_copied c.in-Some-Some.is-1
-    ∙ ap Some (sym c.as_bytes-key-then-ne.ensures.value)))
-    (bytes_eq-apart start.now end.now (rw (c.as_bytes-key.ensures.value, c.as_bytes-key-then-ne.ensures.value)
-    (not-true _ (sym c.ne.ensures ∙ c.if-ne.true))))
+    (has_end_at-both e row.key other.key arrow (sym c.ends_of.ensures.start ∙ ap option_copied c.in-Some-Some.is-0
+    ∙ ap Some (sym start)) (sym c.ends_of.ensures.end_ ∙ ap option_copied c.in-Some-Some.is-1 ∙ ap Some (sym end)))
+    (bytes_eq-apart row.key other.key (rw (start, end) (not-true _ (sym c.ne.ensures ∙ c.if-ne.true))))
     (c.in_ok-push-in-Some-Some-2.ensures.items
     ∙ ap (λ rows. rows ++ other ∷ []) c.in_ok-push-in-Some-Some.ensures.items)
 
@@ -27,10 +25,10 @@ pub returns-else-ne : goal.returns-else-ne
 returns-else-ne c =
     let e = c.args.element.now in
     let arrow : words.is_arrow e.kind ≡ true = cc in
-    let row : Row = record { key = c.as_bytes-key.result; element = c.args.element } in
+    let start = c.new-key.ensures ∙ c.as_bytes.ensures.value in
+    let row : Row = record { key = c.new-key.result; element = c.args.element } in
     Adds-one words.has_end_at e c.args.rows.now.items _ row refl
-    (has_end_at-same e row.key.now c.in-Some-Some.end.now arrow (sym c.ends_of.ensures.start
-    ∙ ap option_copied c.in-Some-Some.is-0 ∙ ap Some (sym c.as_bytes-key.ensures.value)) (sym c.ends_of.ensures.end_
-    ∙ ap option_copied c.in-Some-Some.is-1)
-    (rw c.as_bytes-key.ensures.value (not-false _ (sym c.ne.ensures ∙ c.if-ne.false))))
+    (has_end_at-same e row.key c.in-Some-Some.end.now arrow (sym c.ends_of.ensures.start
+    ∙ ap option_copied c.in-Some-Some.is-0 ∙ ap Some (sym start)) (sym c.ends_of.ensures.end_
+    ∙ ap option_copied c.in-Some-Some.is-1) (rw start (not-false _ (sym c.ne.ensures ∙ c.if-ne.false))))
     c.in_ok-push-in-Some-Some.ensures.items

@@ -44,7 +44,7 @@ returns-in_default-clause-among c =
     (below-partitioned c.args.rows.now.items c.args.key.now c.requires)
     (λ a r f called. (search rules, search rules)) in
     let greater : is_up_to c.args.key.now row ≡ false =
-    ap is_le (sym c.bytes_order.ensures) ∙ (sym c.is_le.ensures ∙ c.if-is_le.false) in
+    ap is_le (sym c.order.ensures) ∙ (sym c.is_le.ensures ∙ c.if-is_le.false) in
     rows-between rows c.args.key.now a a first
     (absent-point rows c.args.key.now a c.requires first (λ d m. subst (λ (r : Row). is_up_to c.args.key.now r ≡ false)
     (at.1 ∙ get_or_default rows a row d m) greater))

@@ -1,15 +1,10 @@
 -- Fronts that differ decide.
-use Rattle.std.proofs.Common.{◌≡◌, ◌≢◌, Some, Less, Equal, Greater, map, slice_get, sym, ap, ◌∙◌}
+use Rattle.std.proofs.Common.{◌≡◌, Some, Less, Greater, map, slice_get, sym, ap, ◌∙◌}
+use Rattle.board_base.proofs.CallerLemmas.{not_less, not_greater}
 use Rattle.elem_store.specs.Fronts.{front_at}
 use Rattle.elem_store.proofs.Fronts.{placed-decides}
 use Rattle.elem_store.proofs.shelf.Shelf.order_at.Goals as goal
 use Rattle.elem_store.proofs.shelf.Shelf.order_at.Goals.{In-Some}
-
-not_less : Equal ≢ Less
-not_less e = cc
-
-not_greater : Equal ≢ Greater
-not_greater e = cc
 
 there : (c : In-Some) → slice_get (map front_at c.self.inside.elements.items) c.args.place ≡ Some c.in-Some.known
 there c = ap (λ fronts. slice_get fronts c.args.place) (sym c.self.invariant) ∙ sym c.front_at.ensures ∙ c.in-Some.is
