@@ -61,8 +61,8 @@ fn changes_between(alloc: Global, old: &Element, new: &Element) -> Result<Vec<Ch
     note_groups(&mut changes, old, new)?;
     note_bound(&mut changes, old, new)?;
     note_headers(alloc, &mut changes, old, new)?;
-    note_rest(alloc, &mut changes, old, new, &old.rest)?;
-    note_rest(alloc, &mut changes, old, new, &new.rest)?;
+    note_rest(alloc, &mut changes, old, new, old.rest.as_list())?;
+    note_rest(alloc, &mut changes, old, new, new.rest.as_list())?;
     Ok(changes)
 }
 
@@ -227,7 +227,7 @@ fn scalar_raw(alloc: Global, e: &Element, name: &Text) -> Result<Option<Raw>, Al
 {
     match header_named(&e.kind, name) {
         Some(header) => Ok(Some(header_raw(alloc, e, header)?)),
-        None => rest_raw(&e.rest, name),
+        None => rest_raw(e.rest.as_list(), name),
     }
 }
 
