@@ -54,7 +54,7 @@ fn copy(
         start_binding: copied_end(alloc, ids, prefix, &e.start_binding)?,
         end_binding: copied_end(alloc, ids, prefix, &e.end_binding)?,
         file: text_clone(&e.file)?,
-        rest: e.rest.try_clone_with(Member::try_clone)?,
+        rest: e.rest.try_clone()?,
     })
 }
 

@@ -17,9 +17,10 @@ use crate::kinds::are_one_kind;
 use crate::part::Part;
 use crate::rest::put_value;
 use board_base::List;
-use elem::{BoundRef, Element};
+use elem::{BoundRef, Element, SharedMembers};
 use json_text::{Raw, Text};
 use std::alloc::{AllocError, Global};
+use std::mem;
 
 /// What the part makes of an element with its id: each scalar becomes that of after, whatever it is
 /// now, and the lists change item by item. An element of another kind stays as it is, and so does
@@ -134,8 +135,9 @@ fn set_member(
     ensures set { OnOk result (IsScalarSet e.old e.new name.now value) }
     ensures element { OnOk result (IsElement e.new) }
 {
-    let mut rest = std::mem::replace(&mut e.rest, List::new(alloc)).into_vec();
+    let none = SharedMembers::new(alloc, List::new(alloc))?;
+    let mut rest = mem::replace(&mut e.rest, none).into_list()?.into_vec();
     put_value(&mut rest, name, value)?;
-    e.rest = List::from_vec(rest);
+    e.rest = SharedMembers::new(alloc, List::from_vec(rest))?;
     Ok(())
 }

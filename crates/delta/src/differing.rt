@@ -19,8 +19,8 @@ use crate::join::are_same;
 use crate::part::Part;
 use crate::rest::find_value;
 use board_base::List;
-use elem::{BoundRef, Element};
-use json_text::{Member, Raw, Text};
+use elem::{BoundRef, Element, SharedMembers};
+use json_text::{Raw, Text};
 use std::alloc::{AllocError, Global};
 
 /// The members outside the stamp in which the elements differ. Where there is no old element, it
@@ -159,7 +159,7 @@ fn note_rest(
     changes: &mut Vec<Change>,
     old: &Element,
     new: &Element,
-    rest: &List<Member>,
+    rest: &SharedMembers,
 ) -> Result<(), AllocError>
     requires free { list_any (λ name. list_any (bytes_eq name) other_names) (names rest.now)
         ≡ false }
@@ -232,7 +232,7 @@ fn scalar_raw(alloc: Global, e: &Element, name: &Text) -> Result<Option<Raw>, Al
 }
 
 /// The value of the member of this name, if there is one.
-fn rest_raw(rest: &List<Member>, name: &Text) -> Result<Option<Raw>, AllocError>
+fn rest_raw(rest: &SharedMembers, name: &Text) -> Result<Option<Raw>, AllocError>
     requires { are_rising (names rest.now) ≡ true }
     ensures { IfOk result (λ value. value ≡ value_named name.now rest.now) }
 {

@@ -9,7 +9,7 @@ ghost use Rattle.delta.specs.Rest.{with_value};
 ghost use Rattle.effects.specs.Settings.{given_value, with_set_member, is_protected};
 
 use board_base::List;
-use elem::Element;
+use elem::{Element, SharedMembers};
 use json_text::{Member, Raw, Text};
 use restore_table::default_of;
 use scene_json::{is_null, is_one_of};
@@ -53,10 +53,10 @@ pub(crate) fn with_member(
     ensures { IfOk result (λ new. new ≡ with_set_member name.now value.now e.now) }
 {
     let value = given_value(alloc, name, value)?;
-    let mut members = e.rest.try_clone_with(Member::try_clone)?.into_vec();
+    let mut members = e.rest.to_list()?.into_vec();
     put_value(&mut members, name, value)?;
     let mut new = e.try_clone()?;
-    new.rest = List::from_vec(members);
+    new.rest = SharedMembers::new(alloc, List::from_vec(members))?;
     Ok(new)
 }
 

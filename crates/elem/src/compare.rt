@@ -3,6 +3,7 @@
 ghost use Rattle.std.specs.Prelude.{◌≡◌, ◌↔◌, IsTrue};
 
 use crate::kind::{Kind, Role};
+use crate::members::SharedMembers;
 use crate::parts::{Binding, BoundRef};
 use board_base::List;
 use frac_keys::Key;
@@ -36,6 +37,12 @@ impl Same for Key {
 impl Same for Member {
     fn same(&self, other: &Member) -> bool {
         self.name.same(&other.name) && self.value.same(&other.value)
+    }
+}
+
+impl Same for SharedMembers {
+    fn same(&self, other: &SharedMembers) -> bool {
+        self.as_list().same(other.as_list())
     }
 }
 

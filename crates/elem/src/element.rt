@@ -3,10 +3,11 @@
 ghost use Rattle.std.specs.Prelude.{◌≡◌, IfOk};
 
 use crate::kind::Kind;
+use crate::members::SharedMembers;
 use crate::parts::{Binding, BoundRef};
 use board_base::List;
 use frac_keys::Key;
-use json_text::{Member, Text};
+use json_text::Text;
 use std::alloc::AllocError;
 use std::marker::Model;
 
@@ -26,7 +27,7 @@ pub struct Element {
     pub start_binding: Option<Binding>,
     pub end_binding: Option<Binding>,
     pub file: Option<Text>,
-    pub rest: List<Member>,
+    pub rest: SharedMembers,
 }
 
 // By hand, so that whoever drops an element sees one call and not what it holds.
@@ -96,7 +97,7 @@ impl Model for Element {
 }
 
 impl Element {
-    /// An equal element.
+    /// An equal element, which shares its further members with this one.
     pub fn try_clone(&self) -> Result<Element, AllocError>
         ensures { IfOk result (λ copy. copy ≡ self.now) }
     {
@@ -115,7 +116,7 @@ impl Element {
             start_binding: binding_clone(&self.start_binding)?,
             end_binding: binding_clone(&self.end_binding)?,
             file: text_clone(&self.file)?,
-            rest: self.rest.try_clone_with(Member::try_clone)?,
+            rest: self.rest.try_clone()?,
         })
     }
 }

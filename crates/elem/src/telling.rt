@@ -32,7 +32,7 @@ pub(crate) fn tell(e: &Element)
     tell_binding(&e.start_binding);
     tell_binding(&e.end_binding);
     tell_optional(&e.file);
-    tell_names(&e.rest);
+    tell_names(e.rest.as_list());
 }
 
 /// A text is UTF-8.

@@ -58,7 +58,7 @@ pub(crate) fn element_of(alloc: Global, members: List<Member>) -> Result<Element
         3,
         ElemFault::File,
     )?;
-    let rest = others(members, &kind);
+    let rest = others(alloc, members, &kind)?;
     Ok(Element {
         id,
         kind,

@@ -1,6 +1,6 @@
 //! Kinds, and the members that they have.
 
-ghost use Rattle.std.specs.Prelude.{◌≡◌, ◌≢◌, ◌↔◌, Some, IsTrue, codes, not, filter, bytes_eq, [], false};
+ghost use Rattle.std.specs.Prelude.{◌≡◌, ◌≢◌, ◌↔◌, Some, IsTrue, codes, not, filter, bytes_eq, [], false, IfOk};
 ghost use Rattle.std.specs.List.{list_any};
 ghost use Rattle.json_text.specs.Members.{pairs};
 ghost use Rattle.scene_json.specs.Named.{value_at, HaveRisingNames};
@@ -16,9 +16,9 @@ ghost use Rattle.elem_read.specs.declared.fault.ElemFault.TheVariants as faults;
 use crate::fault::ElemFault;
 use crate::forms::text;
 use board_base::{List, Stop};
-use elem::Kind;
+use elem::{Kind, SharedMembers};
 use json_text::{Member, Text};
-use std::alloc::Global;
+use std::alloc::{AllocError, Global};
 
 /// The kind, which isn't `selection`.
 pub(crate) fn kind(alloc: Global, members: &List<Member>) -> Result<Kind, Stop<ElemFault>>
@@ -96,15 +96,20 @@ pub(crate) fn is_image(kind: &Kind) -> bool
     matches!(kind, Kind::Image)
 }
 
-/// The members that are no header members of the kind, in their order. They are kept as long as the
-/// element, so no room is left beside them.
-pub(crate) fn others(members: List<Member>, kind: &Kind) -> List<Member>
-    ensures { result ≡ filter (λ member. not (facts.is_header kind.now member.name)) members }
+/// The members that are no header members of the kind, in their order, to be shared. They are kept
+/// as long as the element, so no room is left beside them.
+pub(crate) fn others(
+    alloc: Global,
+    members: List<Member>,
+    kind: &Kind,
+) -> Result<SharedMembers, AllocError>
+    ensures { IfOk result (λ others. others
+        ≡ filter (λ member. not (facts.is_header kind.now member.name)) members) }
 {
     let mut others = members.into_vec();
     drop_headers(&mut others, kind);
     others.shrink_to_fit();
-    List::from_vec(others)
+    SharedMembers::new(alloc, List::from_vec(others))
 }
 
 /// Drops the header members of the kind. Most kinds have only those that all have.

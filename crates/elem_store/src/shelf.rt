@@ -1,7 +1,8 @@
 //! Elements as they came, with the first bytes of their ids beside them.
 
-ghost use Rattle.std.specs.Prelude.{◌≡◌, ◌+◌, ◌-◌, ◌<◌, ◌≤◌, [], ◌∷◌, ◌++◌, length, slice_get, slice_set, option_copied, map, Some, IfOk, IfErr, OnOk, IsOk};
+ghost use Rattle.std.specs.Prelude.{◌≡◌, ◌+◌, ◌-◌, ◌<◌, ◌≤◌, [], ◌∷◌, ◌++◌, length, slice_get, slice_set, option_copied, map, Some, IfSome, IfOk, IfErr, OnOk, IsOk};
 ghost use Rattle.board_base.specs.Fronts.{front_of};
+ghost use Rattle.elem.specs.Facts.{IsElement};
 ghost use Rattle.elem_store.specs.Places as places;
 
 use board_base::{Front, bytes_order, front_of};
@@ -70,11 +71,14 @@ impl Shelf {
         elements
     }
 
-    /// The element at this place.
+    /// The element at this place. That it is one, a read of it tells.
     pub(crate) fn get(&self, place: usize) -> Option<&Element>
-        ensures { option_copied result ≡ slice_get self.now.items place }
+        ensures element { option_copied result ≡ slice_get self.now.items place }
+        ensures is_element { IfSome (option_copied result) IsElement }
     {
-        self.elements.get(place)
+        let e = self.elements.get(place)?;
+        let _id = &e.id;
+        Some(e)
     }
 
     /// How the id of the element at a place compares with another id, whose front this is. All

@@ -1,8 +1,9 @@
 //! A store.
 
-ghost use Rattle.std.specs.Prelude.{◌≡◌, ◌+◌, ◌<◌, ◌≤◌, ◌≢◌, List as Items, [], ◌∷◌, ◌++◌, true, length, filter_map, slice_get, option_copied, AllPairs, Contains, IsSome, IsOk, IfOk, IfErr, OnOk, Ok, false};
+ghost use Rattle.std.specs.Prelude.{◌≡◌, ◌+◌, ◌<◌, ◌≤◌, ◌≢◌, List as Items, [], ◌∷◌, ◌++◌, true, length, filter_map, slice_get, option_copied, AllPairs, Contains, IsSome, IfSome, IsOk, IfOk, IfErr, OnOk, Ok, false};
 ghost use Rattle.frac_keys.specs.Rising.{are_rising};
 ghost use Rattle.elem.specs.ElementValue.{ElementValue};
+ghost use Rattle.elem.specs.Facts.{IsElement};
 ghost use Rattle.elem_store.specs.Updates.{AreStored, HasTaken, element_of, ids_of, is_taken};
 
 use crate::indexed::Places;
@@ -129,6 +130,7 @@ impl Store {
     /// The stored element of this id. It takes no memory.
     pub fn get(&self, id: &Text) -> Option<&Element>
         ensures element { option_copied result ≡ element_of self.now.elements id.now }
+        ensures is_element { IfSome (option_copied result) IsElement }
         ensures ordered { are_rising (ids_of self.now.elements) ≡ true }
     {
         match find_place(&self.elements, &self.places, id) {
@@ -140,6 +142,7 @@ impl Store {
     /// The stored element at this index, in the order of the ids. It takes no memory.
     pub fn at(&self, i: usize) -> Option<&Element>
         ensures element { option_copied result ≡ slice_get self.now.elements i }
+        ensures is_element { IfSome (option_copied result) IsElement }
         ensures ordered { are_rising (ids_of self.now.elements) ≡ true }
     {
         let place = self.places.get(i)?;

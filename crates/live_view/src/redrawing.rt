@@ -8,7 +8,7 @@ use crate::kept::Kept;
 use crate::places::{place_of, place_shown, replace};
 use crate::sharing::shared_as;
 use board_base::List;
-use elem::{Element, SharedElement, same};
+use elem::{Element, SharedElement, SharedMembers, same};
 use std::alloc::{AllocError, Global};
 use std::mem;
 
@@ -98,7 +98,7 @@ fn outline_of(alloc: Global, e: &Element) -> Result<Element, AllocError>
     new.nonce = 0;
     new.updated = 0;
     new.file = None;
-    new.rest = List::new(alloc);
+    new.rest = SharedMembers::new(alloc, List::new(alloc))?;
     Ok(new)
 }
 

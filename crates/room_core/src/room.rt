@@ -1,7 +1,9 @@
 //! A room.
 
-ghost use Rattle.std.specs.Prelude.{◌≡◌, [], IfOk};
+ghost use Rattle.std.specs.Prelude.{◌≡◌, [], true, IfOk};
 ghost use Rattle.std.specs.List.Sorted.{IsStrictlyIncreasing};
+ghost use Rattle.frac_keys.specs.Rising.{are_rising};
+ghost use Rattle.elem_store.specs.Updates.{ids_of};
 ghost use Rattle.board_ends.specs.declared.links.LinkEvent.{LinkEvent};
 ghost use Rattle.room_core.specs.Rooms.{IsRoomStep, without};
 ghost use Rattle.room_core.specs.Planned.{IsPlanned, IsChanged, FitsIn, texts_told};
@@ -92,10 +94,12 @@ impl Room {
         remove_links(&mut self.joined, gone);
     }
 
-    /// The stored elements. It takes no memory.
+    /// The stored elements. It takes no memory. That their ids rise, a call of the store tells.
     pub fn store(&self) -> &Store
         ensures elements { result.now.elements ≡ self.now.state.elements }
+        ensures rising { are_rising (ids_of self.now.state.elements) ≡ true }
     {
+        let _count = self.store.len();
         &self.store
     }
 

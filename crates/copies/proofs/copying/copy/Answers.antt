@@ -10,4 +10,4 @@ invariant_of-result c =
     c.in_ok-prefixed.ensures c.in_ok-try_clone.ensures c.in_ok-all_prefixed.ensures c.in_ok-copied_name.ensures
     c.in_ok-copied_entries.ensures
     c.in_ok-copied_name-2.ensures c.in_ok-copied_end.ensures c.in_ok-copied_end-2.ensures c.in_ok-text_clone.ensures
-    c.in_ok-try_clone_with.ensures c.e.invariant
+    c.in_ok-try_clone-2.ensures c.e.invariant

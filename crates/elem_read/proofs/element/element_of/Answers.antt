@@ -114,7 +114,7 @@ returns-clause-says c =
       end_binding = own-at _ _ IsBindingOrNull _ _ c.is_arrow-arrow.ensures c.in_ok-end_binding.ensures;
       file = own-at _ _ IsTextOrNull _ _ c.is_image.ensures c.in_ok-file.ensures;
       rest = subst (AreOthers (is_header c.in_ok-kind.kind) (find_in (pairs c.args.members)))
-          (sym c.others-rest.ensures) (kept-others (is_header c.in_ok-kind.kind) c.args.members c.requires.rise);
+          (sym c.in_ok-rest.ensures) (kept-others (is_header c.in_ok-kind.kind) c.args.members c.requires.rise);
     }
 
 pub invariant_of-result : goal.invariant_of-result
@@ -136,5 +136,5 @@ invariant_of-result c =
       end_binding = own-at _ _ IsBindingOrNull _ _ c.is_arrow-arrow.ensures c.in_ok-end_binding.ensures;
       file = own-at _ _ IsTextOrNull _ _ c.is_image.ensures c.in_ok-file.ensures;
       rest = subst (AreOthers (is_header c.in_ok-kind.kind) (find_in (pairs c.args.members)))
-          (sym c.others-rest.ensures) (kept-others (is_header c.in_ok-kind.kind) c.args.members c.requires.rise);
+          (sym c.in_ok-rest.ensures) (kept-others (is_header c.in_ok-kind.kind) c.args.members c.requires.rise);
     })

@@ -18,7 +18,7 @@ returns-clause-element c =
     let s = c.self.inside in
     let some = get-at s.elements.items s.places.places c.args.i c.self.invariant.within
     ∙ ap (option_and_then (slice_get s.elements.items)) (sym c.in_ok-place.ensures) in
-    c.get-2.ensures ∙ sym some ∙ ap (λ (s : Held). slice_get s.elements c.args.i) c.self.view_is
+    c.get-2.ensures.element ∙ sym some ∙ ap (λ (s : Held). slice_get s.elements c.args.i) c.self.view_is
 
 pub returns-in_err-place-clause-ordered : goal.returns-in_err-place-clause-ordered
 returns-in_err-place-clause-ordered c =
