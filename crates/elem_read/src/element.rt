@@ -15,6 +15,7 @@ use crate::fault::ElemFault;
 use crate::forms::{id, index, own_text, text_or_null, texts, truth, whole};
 use crate::kinds::{is_arrow, is_image, is_text, kind, others};
 use crate::listing::listing;
+use crate::places;
 use board_base::{List, Stop};
 use elem::Element;
 use json_text::Member;
@@ -31,20 +32,42 @@ pub(crate) fn element_of(alloc: Global, members: List<Member>) -> Result<Element
 {
     let id = id(alloc, &members)?;
     let kind = kind(alloc, &members)?;
-    let version = whole(&members, "version", 21, ElemFault::Version)?;
-    let nonce = whole(&members, "versionNonce", 22, ElemFault::Nonce)?;
-    let updated = whole(&members, "updated", 20, ElemFault::Updated)?;
+    let version = whole(&members, "version", places::VERSION, ElemFault::Version)?;
+    let nonce = whole(
+        &members,
+        "versionNonce",
+        places::VERSION_NONCE,
+        ElemFault::Nonce,
+    )?;
+    let updated = whole(&members, "updated", places::UPDATED, ElemFault::Updated)?;
     let index = index(alloc, &members)?;
-    let deleted = truth(&members, "isDeleted", 9, ElemFault::Deleted)?;
-    let groups = texts(alloc, &members, "groupIds", 5, ElemFault::Groups)?;
-    let frame = text_or_null(alloc, &members, "frameId", 4, ElemFault::Frame)?;
+    let deleted = truth(
+        &members,
+        "isDeleted",
+        places::IS_DELETED,
+        ElemFault::Deleted,
+    )?;
+    let groups = texts(
+        alloc,
+        &members,
+        "groupIds",
+        places::GROUP_IDS,
+        ElemFault::Groups,
+    )?;
+    let frame = text_or_null(
+        alloc,
+        &members,
+        "frameId",
+        places::FRAME_ID,
+        ElemFault::Frame,
+    )?;
     let bound = listing(alloc, &members)?;
     let container = own_text(
         alloc,
         &members,
         is_text(&kind),
         "containerId",
-        3,
+        places::OWN_TEXT,
         ElemFault::Container,
     )?;
     let arrow = is_arrow(&kind);
@@ -55,7 +78,7 @@ pub(crate) fn element_of(alloc: Global, members: List<Member>) -> Result<Element
         &members,
         is_image(&kind),
         "fileId",
-        3,
+        places::OWN_TEXT,
         ElemFault::File,
     )?;
     let rest = others(members, &kind);
