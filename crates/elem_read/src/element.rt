@@ -15,7 +15,7 @@ use crate::fault::ElemFault;
 use crate::forms::{id, index, own_text, text_or_null, texts, truth, whole};
 use crate::kinds::{is_arrow, is_image, is_text, kind, others};
 use crate::listing::listing;
-use crate::places;
+use crate::places::{FRAME_ID, GROUP_IDS, IS_DELETED, OWN_TEXT, UPDATED, VERSION, VERSION_NONCE};
 use board_base::{List, Stop};
 use elem::Element;
 use json_text::Member;
@@ -32,42 +32,20 @@ pub(crate) fn element_of(alloc: Global, members: List<Member>) -> Result<Element
 {
     let id = id(alloc, &members)?;
     let kind = kind(alloc, &members)?;
-    let version = whole(&members, "version", places::VERSION, ElemFault::Version)?;
-    let nonce = whole(
-        &members,
-        "versionNonce",
-        places::VERSION_NONCE,
-        ElemFault::Nonce,
-    )?;
-    let updated = whole(&members, "updated", places::UPDATED, ElemFault::Updated)?;
+    let version = whole(&members, "version", VERSION, ElemFault::Version)?;
+    let nonce = whole(&members, "versionNonce", VERSION_NONCE, ElemFault::Nonce)?;
+    let updated = whole(&members, "updated", UPDATED, ElemFault::Updated)?;
     let index = index(alloc, &members)?;
-    let deleted = truth(
-        &members,
-        "isDeleted",
-        places::IS_DELETED,
-        ElemFault::Deleted,
-    )?;
-    let groups = texts(
-        alloc,
-        &members,
-        "groupIds",
-        places::GROUP_IDS,
-        ElemFault::Groups,
-    )?;
-    let frame = text_or_null(
-        alloc,
-        &members,
-        "frameId",
-        places::FRAME_ID,
-        ElemFault::Frame,
-    )?;
+    let deleted = truth(&members, "isDeleted", IS_DELETED, ElemFault::Deleted)?;
+    let groups = texts(alloc, &members, "groupIds", GROUP_IDS, ElemFault::Groups)?;
+    let frame = text_or_null(alloc, &members, "frameId", FRAME_ID, ElemFault::Frame)?;
     let bound = listing(alloc, &members)?;
     let container = own_text(
         alloc,
         &members,
         is_text(&kind),
         "containerId",
-        places::OWN_TEXT,
+        OWN_TEXT,
         ElemFault::Container,
     )?;
     let arrow = is_arrow(&kind);
@@ -78,7 +56,7 @@ pub(crate) fn element_of(alloc: Global, members: List<Member>) -> Result<Element
         &members,
         is_image(&kind),
         "fileId",
-        places::OWN_TEXT,
+        OWN_TEXT,
         ElemFault::File,
     )?;
     let rest = others(members, &kind);
