@@ -1,4 +1,4 @@
-use Rattle.std.specs.Prelude.{ℕ, List, Some}
+use Rattle.std.specs.Prelude.{ℕ, Some}
 use Rattle.board_ends.specs.CallNumbers.{CallNumbers}
 use Rattle.board_ends.specs.Ends.{SinkEnd}
 use Rattle.board_ends.specs.Memory.{MemSinkState}

@@ -4,5 +4,6 @@ pub mod Ends
 pub mod Events
 pub mod Journals
 pub mod Memory
+pub mod Reads
 pub mod Script
 pub mod Sure

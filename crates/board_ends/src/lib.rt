@@ -22,4 +22,4 @@ pub use pieces::write_pieces;
 pub use script::ScriptLinks;
 pub use standard::{StdSink, StdSource};
 pub use sure::{SureSink, SureSource};
-pub use whole::{ReadError, read_all, write_all};
+pub use whole::{PIECE, ReadError, empty_piece, read_all, write_all};

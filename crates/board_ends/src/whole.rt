@@ -3,6 +3,7 @@
 ghost use Rattle.std.specs.Prelude.{◌≡◌, ◌≢◌, ℕ, ◌+◌, ◌<◌, ◌≤◌, ◌++◌, List, length, take, IfOk, OnOk, OnErr, vec_len};
 ghost use Rattle.board_ends.specs.Counts.{Rose};
 ghost use Rattle.board_ends.specs.Ends.{Gave, Took, KeepsSafe, IsSafeHeld, IsAtEnd};
+ghost use Rattle.board_ends.specs.Reads.{IsReadWithin};
 
 use crate::ends::{Failed, Sink, Source};
 use board_base::{Bytes, Stop};
@@ -10,7 +11,7 @@ use std::alloc::{AllocError, Global};
 use thiserror::Error;
 
 /// How many bytes are asked of a source at once.
-const PIECE: usize = 65536;
+pub const PIECE: usize = 65536;
 
 /// Why not all was read.
 #[derive(Clone, Copy, Debug, PartialEq, Eq, Drop, Error)]
@@ -34,18 +35,7 @@ pub fn read_all<S: Source>(
     requires { limit < 4294967295 }
     ensures given { IfOk result (λ all. Gave (S.seen source.old) (S.seen source.new) all) }
     ensures within { IfOk result (λ all. length all ≤ limit) }
-    ensures end { OnOk result (IsAtEnd (S.seen source.new)) }
-    ensures failed { result ≡ Err (Stop.Fault ReadError.Failed)
-        → Rose (S.seen source.old).faults (S.seen source.new).faults }
-    ensures failed_within { result ≡ Err (Stop.Fault ReadError.Failed)
-        → (some : List ℕ) × (length some ≤ limit)
-        × Gave (S.seen source.old) (S.seen source.new) some }
-    ensures too_long { result ≡ Err (Stop.Fault ReadError.TooLong)
-        → (some : List ℕ) × (length some ≡ limit + 1)
-        × Gave (S.seen source.old) (S.seen source.new) some }
-    ensures stopped { OnErr result ((some : List ℕ) × (length some ≤ limit + 1)
-        × Gave (S.seen source.old) (S.seen source.new) some) }
-    ensures counted { (S.seen source.old).faults ≤ (S.seen source.new).faults }
+    ensures ends { IsReadWithin limit (S.seen source.old) (S.seen source.new) result }
 {
     let mut all = Vec::new(alloc);
     let mut piece = empty_piece(alloc)?;
@@ -87,8 +77,8 @@ fn append_next<S: Source>(
     }
 }
 
-/// A buffer for the bytes that are asked for at once.
-fn empty_piece(alloc: Global) -> Result<Vec<u8>, AllocError>
+/// A buffer for the bytes that are asked of a source at once.
+pub fn empty_piece(alloc: Global) -> Result<Vec<u8>, AllocError>
     ensures { IfOk result (λ piece. vec_len piece ≡ PIECE) }
 {
     vec![in alloc; 0; PIECE]

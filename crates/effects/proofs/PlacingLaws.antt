@@ -1,12 +1,14 @@
 -- Keys in the order of a scene: those beside a spot rise, and a map has the keys of elements by their ids.
-use Rattle.std.proofs.Common.{◌≡◌, ℕ, zero, suc, ◌+◌, ◌<◌, Bool, true, false, cond, not, ◌&&◌, List, [], ◌∷◌, ◌++◌, append-nil, drop, get_or, length, Option, Some, None, is_some, map, slice_get, bytes_eq, nat_cmp, inl, inr, refl, sym, ap, ◌∙◌, subst, Bor, arith}
+use Rattle.std.proofs.Common.{◌≡◌, ℕ, zero, suc, ◌+◌, ◌<◌, Bool, true, false, cond, not, ◌&&◌, List, [], ◌∷◌, ◌++◌, append-nil, drop, get_or, length, reverse, Option, Some, None, is_some, map, slice_get, bytes_eq, nat_cmp, inl, inr, refl, sym, ap, ◌∙◌, subst, Bor, arith}
 use Rattle.std.specs.BTreeMap.{BTreeMap, get, is_at, Updates}
 use Rattle.std.specs.BTreeSet.{BTreeSet, contains}
-use Rattle.std.specs.List.{AllByRecursion, IsDistinct, list_any}
+use Rattle.std.specs.List.{AllByRecursion, IsDistinct, find, list_any}
 use Rattle.std.specs.Map.{lookup}
 use Rattle.std.specs.Cmp.Lexicographic.{slice_cmp, nat_list_eq_equiv, texts_ties}
-use Rattle.std.specs.Option.{option_or, option_map, option_copied}
+use Rattle.std.specs.Option.{option_and_then, option_or, option_map, option_copied}
 use Rattle.std.proofs.lemmas.Bool.{and_right, cases_Bool, false≢true}
+use Rattle.std.proofs.lemmas.Grind.{reverse_onto}
+use Rattle.std.proofs.lemmas.List.{reverse-reverse}
 use Rattle.std.proofs.lemmas.List.Elements.{filter-append}
 use Rattle.std.proofs.lemmas.Option.{none-some, same_Some}
 use Rattle.json_text.proofs.CallerLemmas.{bytes_eq-same, bytes_eq-true}
@@ -184,6 +186,37 @@ last_key-passed except elements e same =
     ap last_key (filter-append (λ (d : ElementValue). not (is_of except d)) elements (e ∷ []))
     ∙ last-behind None (others except elements) (others except (e ∷ []))
     ∙ rw same refl
+
+-- the key of the first element that isn't passed over, and of the last
+pub first_key-found : (except : Option (List ℕ)) (elements : List ElementValue)
+    → first_key (others except elements)
+    ≡ option_and_then (λ (e : ElementValue). e.index) (find (λ (e : ElementValue). not (is_of except e)) elements)
+first_key-found except [] = refl
+first_key-found except (e ∷ elements) = elim (cases_Bool (is_of except e)) [
+  | inl same ↦ rw same (first_key-found except elements)
+  | inr other ↦ rw other refl
+]
+
+last_key-behind : (except : Option (List ℕ)) (elements : List ElementValue)
+    → last_key (others except (reverse elements))
+    ≡ option_and_then (λ (e : ElementValue). e.index) (find (λ (e : ElementValue). not (is_of except e)) elements)
+last_key-behind except [] = refl
+last_key-behind except (e ∷ elements) =
+    ap (λ es. last_key (others except es)) (reverse_onto elements e [])
+    ∙ elim (cases_Bool (is_of except e)) [
+      | inl same ↦ last_key-passed except (reverse elements) e same
+          ∙ last_key-behind except elements
+          ∙ rw same refl
+      | inr other ↦ last_key-own except (reverse elements) e other ∙ rw other refl
+    ]
+
+pub last_key-found : (except : Option (List ℕ)) (elements : List ElementValue)
+    → last_key (others except elements)
+    ≡ option_and_then (λ (e : ElementValue). e.index) (find (λ (e : ElementValue). not (is_of except e))
+    (reverse elements))
+last_key-found except elements =
+    ap (λ es. last_key (others except es)) (sym (reverse-reverse elements))
+    ∙ last_key-behind except (reverse elements)
 
 -- ---- a map of keys
 none-or : {X : Type 0} (o : Option X) → option_or o None ≡ o

@@ -230,14 +230,8 @@ fn first_key<'a>(elements: &'a [SharedElement], except: Option<&Text>) -> Option
     ensures { option_copied result
         ≡ placing.first_key (others (option_copied except.entry) elements.now) }
 {
-    let mut rest = elements;
-    while let Some((e, behind)) = rest.split_first() {
-        if !is_of(e, except) {
-            return index_of(e);
-        }
-        rest = behind;
-    }
-    None
+    let e = elements.iter().find(|e| !is_of(e, except))?;
+    index_of(e)
 }
 
 /// The key of the last of the elements but the one of this id.
@@ -245,14 +239,8 @@ fn last_key<'a>(elements: &'a [SharedElement], except: Option<&Text>) -> Option<
     ensures { option_copied result
         ≡ placing.last_key (others (option_copied except.entry) elements.now) }
 {
-    let mut rest = elements;
-    while let Some((e, before)) = rest.split_last() {
-        if !is_of(e, except) {
-            return index_of(e);
-        }
-        rest = before;
-    }
-    None
+    let e = elements.iter().rev().find(|e| !is_of(e, except))?;
+    index_of(e)
 }
 
 /// The keys of a shown element and of the one above it, among the shown elements but the one of

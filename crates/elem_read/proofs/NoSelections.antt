@@ -1,5 +1,5 @@
 -- The value that is read, its members and the restored ones.
-use Rattle.std.proofs.Common.{◌≡◌, ◌≢◌, ℕ, List, [], ◌∷◌, Option, Some, None, All, subst, refl, sym, ap, ◌∙◌, bytes_eq, codes, lit≤}
+use Rattle.std.proofs.Common.{◌≡◌, ◌≢◌, ℕ, List, [], ◌∷◌, Some, All, subst, refl, sym, ap, ◌∙◌, bytes_eq, codes, lit≤}
 use Rattle.std.specs.List.{AllByRecursion}
 use Rattle.std.proofs.lemmas.Bool.{both_ways}
 use Rattle.std.proofs.lemmas.List.Elements.{recursion_from_All}
@@ -10,6 +10,8 @@ use Rattle.json_text.specs.Value.{IsCompact}
 use Rattle.json_text.specs.declared.text.Member.{Member}
 use Rattle.scene_json.specs.Named.{value_at}
 use Rattle.scene_json.specs.Walks.{IsTakenApart}
+use Rattle.scene_json.specs.declared.parts.Item.{Item}
+use Rattle.scene_json.specs.declared.parts.Item.TheVariants.{Object, Other}
 use Rattle.json_text.proofs.CallerLemmas.{bytes_eq-same, object-compact}
 use Rattle.scene_json.proofs.CallerLemmas.{AreMembers-values}
 use Rattle.restore_table.specs.Restored.{AreRestored, old_name}
@@ -23,23 +25,20 @@ use Rattle.elem_read.specs.declared.fault.ElemFault.{ElemFault}
 use Rattle.elem_read.specs.declared.fault.ElemFault.TheVariants.{NotObject, Depth, Id, Kind, Version, Nonce, Updated, Index, Deleted, Groups, Frame, Bound, Container, Binding, File}
 use Rattle.elem_read.proofs.Keeping.{AllFound, found-has, object-nests}
 
--- what a value is that was taken apart
-pub taken-apart : (value : List ℕ) (taken : Option (List Member))
-    → ((ms : List Member) → taken ≡ Some ms → AreMembers 127 (pairs ms) × (value ≡ object_text (pairs ms)))
-    → (taken ≡ None → (members : List Pair) → value ≢ object_text members) → IsTakenApart value taken
-taken-apart value None some none = none refl
-taken-apart value (Some ms) some none = some ms refl
+pub no-object : (value : List ℕ) → ((members : List Pair) → value ≢ object_text members) → IsFaultIn value NotObject
+no-object value none = λ members object. none members object.spelled
 
-pub taken-object : (value : List ℕ) (taken : Option (List Member)) (ms : List Member) → IsTakenApart value taken
-    → taken ≡ Some ms → IsObject value (pairs ms)
-taken-object value taken ms is e =
+-- what an item is that was taken apart
+pub taken-object : (value : List ℕ) (item : Item) (ms : List Member) → IsTakenApart value item → item ≡ Object ms
+    → IsObject value (pairs ms)
+taken-object value item ms is e =
     let some = subst (IsTakenApart value) e is in record { are_members = some.0; spelled = some.1 }
+
+pub taken-other : (value : List ℕ) (item : Item) → IsTakenApart value item → item ≡ Other → IsFaultIn value NotObject
+taken-other value item is e = no-object value (subst (IsTakenApart value) e is)
 
 pub is-object : (value : List ℕ) (ms : List Pair) → value ≡ object_text ms → AreMembers 127 ms → IsObject value ms
 is-object value ms spelled are = record { are_members = are; spelled = spelled }
-
-pub no-object : (value : List ℕ) → ((members : List Pair) → value ≢ object_text members) → IsFaultIn value NotObject
-no-object value none = λ members object. none members object.spelled
 
 pub selection : (value : List ℕ) (ms : List Pair) → IsObject value ms → value_at (codes "type") ms ≡ Some selection_text
     → IsSelection value

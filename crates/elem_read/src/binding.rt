@@ -59,12 +59,12 @@ fn binding_or_null(
     let Some(target) = text_named(alloc, &members, TARGET)? else {
         return Ok(None);
     };
-    let rest = further(members)?;
+    let rest = further_members(members)?;
     Ok(Some(Binding { target, rest }))
 }
 
-/// The members but the target, in the order of the bytes of their names.
-fn further(members: List<Member>) -> Result<List<Member>, AllocError>
+/// The members of a binding but its target, in the order of the bytes of their names.
+pub fn further_members(members: List<Member>) -> Result<List<Member>, AllocError>
     requires { IsDistinct bytes_eq (map (λ member. member.name) members) }
     ensures { IfOk result (AreOthers (bytes_eq (codes "elementId")) (find_in (pairs members))) }
 {

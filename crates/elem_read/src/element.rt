@@ -15,6 +15,7 @@ use crate::fault::ElemFault;
 use crate::forms::{id, index, own_text, text_or_null, texts, truth, whole};
 use crate::kinds::{is_arrow, is_image, is_text, kind, others};
 use crate::listing::listing;
+use crate::places::{FRAME_ID, GROUP_IDS, IS_DELETED, OWN_TEXT, UPDATED, VERSION, VERSION_NONCE};
 use board_base::{List, Stop};
 use elem::Element;
 use json_text::Member;
@@ -31,20 +32,20 @@ pub(crate) fn element_of(alloc: Global, members: List<Member>) -> Result<Element
 {
     let id = id(alloc, &members)?;
     let kind = kind(alloc, &members)?;
-    let version = whole(&members, "version", 21, ElemFault::Version)?;
-    let nonce = whole(&members, "versionNonce", 22, ElemFault::Nonce)?;
-    let updated = whole(&members, "updated", 20, ElemFault::Updated)?;
+    let version = whole(&members, "version", VERSION, ElemFault::Version)?;
+    let nonce = whole(&members, "versionNonce", VERSION_NONCE, ElemFault::Nonce)?;
+    let updated = whole(&members, "updated", UPDATED, ElemFault::Updated)?;
     let index = index(alloc, &members)?;
-    let deleted = truth(&members, "isDeleted", 9, ElemFault::Deleted)?;
-    let groups = texts(alloc, &members, "groupIds", 5, ElemFault::Groups)?;
-    let frame = text_or_null(alloc, &members, "frameId", 4, ElemFault::Frame)?;
+    let deleted = truth(&members, "isDeleted", IS_DELETED, ElemFault::Deleted)?;
+    let groups = texts(alloc, &members, "groupIds", GROUP_IDS, ElemFault::Groups)?;
+    let frame = text_or_null(alloc, &members, "frameId", FRAME_ID, ElemFault::Frame)?;
     let bound = listing(alloc, &members)?;
     let container = own_text(
         alloc,
         &members,
         is_text(&kind),
         "containerId",
-        3,
+        OWN_TEXT,
         ElemFault::Container,
     )?;
     let arrow = is_arrow(&kind);
@@ -55,7 +56,7 @@ pub(crate) fn element_of(alloc: Global, members: List<Member>) -> Result<Element
         &members,
         is_image(&kind),
         "fileId",
-        3,
+        OWN_TEXT,
         ElemFault::File,
     )?;
     let rest = others(alloc, members, &kind)?;

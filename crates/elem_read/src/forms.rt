@@ -10,6 +10,7 @@ ghost use Rattle.elem_read.specs.declared.fault.ElemFault.TheVariants as faults;
 
 use crate::fault::ElemFault;
 use crate::near::{text_near, truth_near, value_near, whole_near};
+use crate::places::{ID, INDEX};
 use board_base::{List, Stop};
 use frac_keys::Key;
 use json_text::{Member, Text};
@@ -38,7 +39,7 @@ pub(crate) fn id(alloc: Global, members: &List<Member>) -> Result<Text, Stop<Ele
     requires { HaveRisingNames (pairs members.now) }
     ensures { Reads (IsId (value_at (codes "id") (pairs members.now))) faults.Id result }
 {
-    match text_near(alloc, members, "id", 7)? {
+    match text_near(alloc, members, "id", ID)? {
         Some(id) if !id.as_bytes().is_empty() => Ok(id),
         _ => Err(Stop::Fault(ElemFault::Id)),
     }
@@ -104,7 +105,7 @@ pub(crate) fn index(alloc: Global, members: &List<Member>) -> Result<Option<Key>
     requires { HaveRisingNames (pairs members.now) }
     ensures { Reads (IsKeyOrNull (value_at (codes "index") (pairs members.now))) faults.Index result }
 {
-    match text_or_null(alloc, members, "index", 8, ElemFault::Index)? {
+    match text_or_null(alloc, members, "index", INDEX, ElemFault::Index)? {
         Some(text) => Ok(Key::read(alloc, text.as_bytes())?),
         None => Ok(None),
     }

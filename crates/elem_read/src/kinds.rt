@@ -15,6 +15,7 @@ ghost use Rattle.elem_read.specs.declared.fault.ElemFault.TheVariants as faults;
 
 use crate::fault::ElemFault;
 use crate::forms::text;
+use crate::places::TYPE;
 use board_base::{List, Stop};
 use elem::{Kind, SharedMembers};
 use json_text::{Member, Text};
@@ -27,7 +28,7 @@ pub(crate) fn kind(alloc: Global, members: &List<Member>) -> Result<Kind, Stop<E
     ensures { ReadsOr (IsKindName (value_at (codes "type") (pairs members.now)))
         (IsText (value_at (codes "type") (pairs members.now))) faults.Kind result }
 {
-    Ok(kind_named(text(alloc, members, "type", 19, ElemFault::Kind)?))
+    Ok(kind_named(text(alloc, members, "type", TYPE, ElemFault::Kind)?))
 }
 
 /// The kind of this name.

@@ -9,7 +9,9 @@ mod kinds;
 pub mod laws;
 mod listing;
 mod near;
+mod places;
 mod reading;
 
+pub use binding::further_members;
 pub use fault::{ElemFault, FaultyElement};
 pub use reading::{read_array, read_element, read_elements};

@@ -12,6 +12,7 @@ ghost use Rattle.elem_read.specs.declared.fault.ElemFault.TheVariants as faults;
 
 use crate::fault::ElemFault;
 use crate::near::value_near;
+use crate::places::BOUND_ELEMENTS;
 use board_base::{List, Stop};
 use elem::{BoundRef, Role};
 use json_text::{Member, Raw};
@@ -27,7 +28,7 @@ pub(crate) fn listing(
     ensures { Reads (IsListing (value_at (codes "boundElements") (pairs members.now))) faults.Bound
         result }
 {
-    let Some(value) = value_near(members, "boundElements", 2) else {
+    let Some(value) = value_near(members, "boundElements", BOUND_ELEMENTS) else {
         return Err(Stop::Fault(ElemFault::Bound));
     };
     let Some(items) = shaped(items(alloc, value))? else {

@@ -17,7 +17,7 @@ use board_base::{List, Stop};
 use elem::Element;
 use json_text::{Member, Raw};
 use restore_table::into_restored;
-use scene_json::{Objects, has_value, members, nests_at_most, shaped};
+use scene_json::{Item, Objects, has_value, members, nests_at_most, shaped};
 use std::alloc::Global;
 
 /// How many brackets may be open at once in an element, its own counted.
@@ -33,25 +33,36 @@ pub fn read_element(alloc: Global, value: &Raw) -> Result<Option<Element>, Stop<
         → IsFaultIn value.now fault }
     ensures whole { IfOk result (λ found. IfSome found IsWholeElement) }
 {
-    let taken = shaped(members(alloc, value))?;
-    read_members(alloc, taken)
+    match shaped(members(alloc, value))? {
+        Some(given) => read_members(alloc, given),
+        None => Err(Stop::Fault(ElemFault::NotObject)),
+    }
 }
 
-/// The element that a value with these members is; without members it is no object.
-fn read_members(
-    alloc: Global,
-    taken: Option<List<Member>>,
-) -> Result<Option<Element>, Stop<ElemFault>>
-    requires { (value : Items ℕ) × IsTakenApart value taken }
-    ensures read { IfOk result (λ found. (value : Items ℕ) → IsTakenApart value taken
+/// The element that an item is.
+fn read_item(alloc: Global, item: Item) -> Result<Option<Element>, Stop<ElemFault>>
+    requires { (value : Items ℕ) × IsTakenApart value item }
+    ensures read { IfOk result (λ found. (value : Items ℕ) → IsTakenApart value item
         → MatchOption found (IsSelection value) (IsElementIn value)) }
     ensures fault { (fault : ElemFault) → result ≡ Err (Stop.Fault fault) → (value : Items ℕ)
-        → IsTakenApart value taken → IsFaultIn value fault }
+        → IsTakenApart value item → IsFaultIn value fault }
     ensures whole { IfOk result (λ found. IfSome found IsWholeElement) }
 {
-    let Some(given) = taken else {
-        return Err(Stop::Fault(ElemFault::NotObject));
-    };
+    match item {
+        Item::Object(given) => read_members(alloc, given),
+        Item::Other => Err(Stop::Fault(ElemFault::NotObject)),
+    }
+}
+
+/// The element that an object with these members is.
+fn read_members(alloc: Global, given: List<Member>) -> Result<Option<Element>, Stop<ElemFault>>
+    requires { (value : Items ℕ) × IsObject value (pairs given) }
+    ensures read { IfOk result (λ found. (value : Items ℕ) → IsObject value (pairs given)
+        → MatchOption found (IsSelection value) (IsElementIn value)) }
+    ensures fault { (fault : ElemFault) → result ≡ Err (Stop.Fault fault) → (value : Items ℕ)
+        → IsObject value (pairs given) → IsFaultIn value fault }
+    ensures whole { IfOk result (λ found. IfSome found IsWholeElement) }
+{
     if has_value(&given, "type", "\"selection\"") {
         return Ok(None);
     }
@@ -123,8 +134,8 @@ pub fn read_array(
 {
     let mut elements = Vec::new(alloc);
     let mut place = 0;
-    while let Some(taken) = objects.next(alloc)? {
-        let read = at_place(read_members(alloc, taken), place)?;
+    while let Some(item) = objects.next(alloc)? {
+        let read = at_place(read_item(alloc, item), place)?;
         if let Some(element) = read {
             elements.push(element)?;
         }

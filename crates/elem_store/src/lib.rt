@@ -6,5 +6,7 @@ pub mod laws;
 mod places;
 mod shelf;
 mod store;
+mod texts;
 
 pub use store::Store;
+pub use texts::push_stored;

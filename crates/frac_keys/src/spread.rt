@@ -29,6 +29,8 @@ pub fn n_between(
     ensures inside { IfOk result
         (λ keys. IsTrue (list_all (lies_between (option_copied a.entry) (option_copied b.entry))
         keys)) }
+    ensures low_end { IsTrue (is_key_or_none (option_copied a.entry)) }
+    ensures high_end { IsTrue (is_key_or_none (option_copied b.entry)) }
 {
     let keys = keys_between(alloc, end_bytes(a), end_bytes(b), n)?;
     Ok(List::from_vec(keys))

@@ -46,8 +46,6 @@ pub fn repair_part(
     ensures new_keys { IfOk result (λ new. IsTrue (list_all is_key new)) }
     ensures old_keys { IfOk result (λ _. IsTrue (list_all is_key_or_none keys.now)) }
 {
-    // So that it is known to be a key.
-    let _above = end_bytes(above);
     let mut new = Vec::new(alloc);
     let mut low = None;
     let mut run = 0;
@@ -90,14 +88,6 @@ fn is_above(low: Option<&Key>, key: &Key) -> bool
     }
 }
 
-/// The bytes of an end.
-fn end_bytes(end: Option<&Key>) -> Option<&[u8]>
-    ensures value { option_copied result ≡ option_copied end.entry }
-    ensures key { IsTrue (is_key_or_none (option_copied end.entry)) }
-{
-    end.map(|key| key.as_bytes())
-}
-
 /// Appends the keys between two ends.
 fn push_between(
     alloc: Global,
@@ -107,8 +97,9 @@ fn push_between(
     run: usize,
 ) -> Result<(), AllocError>
     requires { IsTrue (ends_rise (option_copied low) (option_copied high)) }
-    ensures { OnOk result (new.new.items ≡ new.old.items ++ keys_between (option_copied low.entry)
-        (option_copied high.entry) run) }
+    ensures pushed { OnOk result (new.new.items ≡ new.old.items
+        ++ keys_between (option_copied low.entry) (option_copied high.entry) run) }
+    ensures high_end { IsTrue (is_key_or_none (option_copied high.entry)) }
 {
     let mut between = n_between(alloc, low, high, run)?.into_vec();
     new.append(&mut between)

@@ -8,9 +8,9 @@ ghost use Rattle.intake.specs.Lines.{lines_of, lines_behind, begun_behind};
 ghost use Rattle.intake.specs.inner.Begun.{IsBegun};
 ghost use Rattle.intake.specs.declared.answering.LinesFault.{LinesFault};
 
-use crate::line::{Begun, empty_piece, line_end};
+use crate::line::{Begun, line_end};
 use board_base::{Bytes, Stop};
-use board_ends::{Failed, Sink, Source, write_all};
+use board_ends::{Failed, Sink, Source, empty_piece, write_all};
 use std::alloc::{AllocError, Global};
 
 /// What answers lines, one after the other.

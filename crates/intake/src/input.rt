@@ -3,12 +3,12 @@
 ghost use Rattle.std.specs.Prelude.{◌≡◌, ◌≢◌, ℕ, ◌+◌, ◌^◌, ◌<◌, ◌≤◌, List, [], ◌++◌, length, take, IfOk, OnOk, OnErr};
 ghost use Rattle.board_ends.specs.Counts.{Rose};
 ghost use Rattle.board_ends.specs.Ends.{Gave, IsAtEnd};
+ghost use Rattle.board_ends.specs.Reads.{IsReadWithin};
 ghost use Rattle.intake.specs.Texts.{StandsIn, AreRead};
 
-use crate::line::{PIECE, empty_piece};
 use crate::reading::{Reader, Stopped, finish, take_piece};
 use board_base::Stop;
-use board_ends::{Failed, ReadError, Source};
+use board_ends::{Failed, PIECE, ReadError, Source, empty_piece};
 use json_reader::Feed;
 use std::alloc::Global;
 
@@ -27,18 +27,7 @@ pub fn read_texts<S: Source, R: Reader>(
     ensures read { IfOk result (λ stop. (bytes : List ℕ) × (length bytes ≤ limit)
         × Gave (S.seen source.old) (S.seen source.new) bytes
         × AreRead bytes (R.seen reader.new) stop) }
-    ensures end { OnOk result (IsAtEnd (S.seen source.new)) }
-    ensures failed { result ≡ Err (Stop.Fault ReadError.Failed)
-        → Rose (S.seen source.old).faults (S.seen source.new).faults }
-    ensures failed_within { result ≡ Err (Stop.Fault ReadError.Failed)
-        → (some : List ℕ) × (length some ≤ limit)
-        × Gave (S.seen source.old) (S.seen source.new) some }
-    ensures too_long { result ≡ Err (Stop.Fault ReadError.TooLong)
-        → (some : List ℕ) × (length some ≡ limit + 1)
-        × Gave (S.seen source.old) (S.seen source.new) some }
-    ensures stopped { OnErr result ((some : List ℕ) × (length some ≤ limit + 1)
-        × Gave (S.seen source.old) (S.seen source.new) some) }
-    ensures counted { (S.seen source.old).faults ≤ (S.seen source.new).faults }
+    ensures ends { IsReadWithin limit (S.seen source.old) (S.seen source.new) result }
 {
     let mut feed = Feed::new(alloc);
     let mut stop = None;

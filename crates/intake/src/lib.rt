@@ -10,5 +10,5 @@ mod reading;
 
 pub use answering::{Answerer, LinesFault, answer_lines};
 pub use input::read_texts;
-pub use line::{empty_piece, line_end};
+pub use line::line_end;
 pub use reading::{Reader, Stopped};

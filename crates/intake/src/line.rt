@@ -1,14 +1,11 @@
 //! Where a line ends, and the line whose end hasn't come yet.
 
-ghost use Rattle.std.specs.Prelude.{◌≡◌, false, ℕ, List, [], ◌++◌, ◌≤◌, length, vec_len, IfOk};
+ghost use Rattle.std.specs.Prelude.{◌≡◌, false, ℕ, List, [], ◌++◌, ◌≤◌, length};
 ghost use Rattle.std.specs.List.{prefix_len};
 ghost use Rattle.intake.specs.Lines.{is_within_line};
 ghost use Rattle.intake.specs.inner.Begun.{IsBegun};
 
-use std::alloc::{AllocError, Global};
-
-/// How many bytes are asked of a source at once.
-pub(crate) const PIECE: usize = 65536;
+use std::alloc::Global;
 
 /// The offset of the first line feed, or the length where there is none.
 pub fn line_end(piece: &[u8]) -> usize
@@ -21,13 +18,6 @@ pub fn line_end(piece: &[u8]) -> usize
         }
     }
     piece.len()
-}
-
-/// A buffer of 65,536 bytes, for those that are asked of a source at once.
-pub fn empty_piece(alloc: Global) -> Result<Vec<u8>, AllocError>
-    ensures { IfOk result (λ piece. vec_len piece ≡ 65536) }
-{
-    vec![in alloc; 0; PIECE]
 }
 
 /// The bytes of a line whose end hasn't come yet. They are lost where memory was wanting for them.

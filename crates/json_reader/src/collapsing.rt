@@ -7,6 +7,7 @@ ghost use Rattle.json_text.specs.Parts.{names_of};
 ghost use Rattle.json_reader.specs.Drafts.{pairs_text};
 ghost use Rattle.json_reader.specs.Places.{cut, entries, mark_of, IsWithin, AreWithin};
 
+use json_text::FEW_MEMBERS;
 use std::alloc::{AllocError, Global};
 use std::collections::BTreeMap;
 
@@ -24,13 +25,10 @@ pub(crate) struct Place {
     pub value: Span,
 }
 
-/// How many members are few, as an element's are: room is made for so many at once, and their names
-/// are compared one by one.
-pub(crate) const FEW: usize = 40;
-
 /// Where a name comes again among the members that are all of the text, writes the text anew: the
-/// last value stands at the first one's place. Names are equal where their quotes are. Among many
-/// an ordered map finds them, so that no choice of names makes this slow.
+/// last value stands at the first one's place. Names are equal where their quotes are. Those of few
+/// members are compared one by one; among many an ordered map finds them, so that no choice of names
+/// makes this slow.
 pub(crate) fn collapse(
     alloc: Global,
     text: &mut Vec<u8>,
@@ -41,7 +39,7 @@ pub(crate) fn collapse(
     ensures { OnOk result (text.new.items
         ≡ pairs_text (collapsed (entries text.old.items places.now))) }
 {
-    if places.len() <= FEW && are_distinct(text.as_slice(), places) {
+    if places.len() <= FEW_MEMBERS && are_distinct(text.as_slice(), places) {
         return Ok(());
     }
     if let Some(kept) = kept_places(alloc, text.as_slice(), places)? {

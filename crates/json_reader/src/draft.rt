@@ -4,8 +4,8 @@ ghost use Rattle.std.specs.Prelude.{◌≡◌, length, ◌+◌, ◌-◌, IfOk, O
 ghost use Rattle.json_text.specs.Characters.{quote};
 ghost use Rattle.json_reader.specs.Drafts.{fresh, grown, named, parted, closed, placed, IsWhole};
 
-use crate::collapsing::{FEW, Place, Span, collapse};
-use json_text::{Text, push_quote};
+use crate::collapsing::{Place, Span, collapse};
+use json_text::{FEW_MEMBERS, Text, push_quote};
 use std::alloc::{AllocError, Global};
 use std::marker::Model;
 use std::mem::swap;
@@ -73,7 +73,7 @@ impl Draft {
         ensures { IfOk result (λ draft. draft ≡ fresh) }
     {
         let text = Vec::with_capacity(alloc, 512)?;
-        let places = Vec::with_capacity(alloc, FEW)?;
+        let places = Vec::with_capacity(alloc, FEW_MEMBERS)?;
         Ok(Draft {
             text,
             from: 0,
@@ -180,7 +180,7 @@ impl Draft {
 
     /// Whether it has no more room than most elements need.
     pub(crate) fn is_small(&self) -> bool {
-        self.text.capacity() <= FEW_BYTES && self.places.capacity() <= FEW
+        self.text.capacity() <= FEW_BYTES && self.places.capacity() <= FEW_MEMBERS
     }
 
     /// Leaves nothing but the room.

@@ -18,4 +18,4 @@ pub use quote_bytes::QuoteBytes;
 pub use quotes::{push_quote, push_quoted, whole_or_cut};
 pub use runs::{bare_end, inert_end, quiet_end, run_end};
 pub use space::{is_space, skip_space};
-pub use text::{Member, Raw, Text};
+pub use text::{FEW_MEMBERS, Member, Raw, Text};

@@ -44,6 +44,9 @@ impl Model for Raw {
     ghost invariant = { λ r. IsCompact 128 r.bytes };
 }
 
+/// How many members an element has at most, most often: room is made for so many at once.
+pub const FEW_MEMBERS: usize = 40;
+
 /// A member of an object.
 #[derive(Drop)]
 pub struct Member {

@@ -11,12 +11,6 @@ use Rattle.room_msg.specs.declared.fault.MsgFault.{MsgFault}
 use Rattle.room_msg.specs.declared.message.Message.TheVariants.{Init}
 use Rattle.room_core.specs.Rooms.{invalid_text}
 
--- an index within the elements has one
-pub within_stored : (stored : List ElementValue) (i : ℕ) → i < length stored → None ≡ slice_get stored i → ⊥
-within_stored [] i l h = absurd (omega arith)
-within_stored (e ∷ stored) zero l h = cc
-within_stored (e ∷ stored) (suc i) l h = within_stored stored i (omega arith) h
-
 abbrev init_front : List ℕ
 init_front = codes "{\"type\":\"SCENE_INIT\",\"payload\":{\"elements\":["
 

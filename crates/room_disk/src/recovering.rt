@@ -11,9 +11,9 @@ ghost use Rattle.room_disk.specs.declared.fault.RecoverFault.{RecoverFault};
 use crate::fault::RecoverFault;
 use crate::recovery::Recovery;
 use board_base::Stop;
-use board_ends::{Failed, Source};
+use board_ends::{Failed, Source, empty_piece};
 use elem_store::Store;
-use intake::{empty_piece, line_end};
+use intake::line_end;
 use scene_file::Head;
 use std::alloc::{AllocError, Global};
 

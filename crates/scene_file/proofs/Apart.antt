@@ -16,6 +16,7 @@ use Rattle.scene_json.proofs.CallerLemmas.{distinct_moved, same_moved}
 use Rattle.scene_file.specs.Heads.{Heading}
 use Rattle.scene_file.specs.Reading.{value_unless_null, HasItems, HasMembers, IsSource, IsHeadOf}
 use Rattle.scene_file.specs.inner.Taken.{AreItemsRead}
+use Rattle.scene_file.specs.declared.reading.Elements.TheVariants.{Read, NoArray}
 use Rattle.scene_file.proofs.Nesting.{value_unless_null-found}
 
 abbrev pub elements : List ℕ
@@ -66,7 +67,7 @@ array-given items members same =
 pub none-given : (members : List Pair) (value : List ℕ)
     → All (λ (m : Pair). (items : List (List ℕ)) → m ≢ (elements, array_text items)) members
     → value_unless_null elements members ≡ Some value
-    → AreItemsRead (value_unless_null elements members) None
+    → AreItemsRead (value_unless_null elements members) NoArray
 none-given members value none is values has =
     let array = subst (λ found. HasItems found values) is has in
     All-contains (λ (m : Pair). (items : List (List ℕ)) → m ≢ (elements, array_text items)) members (
@@ -76,8 +77,8 @@ none-given members value none is values has =
     (Contains-from_lookup bytes_eq-true elements value members (value_unless_null-found elements members value is))
     values (ap (λ v. (elements, v)) array.1)
 
-pub missing-read : (found : Option (List ℕ)) → found ≡ None → AreItemsRead found (Some (Ok []))
-missing-read found none = subst (λ found. AreItemsRead found (Some (Ok []))) (sym none) ([], refl, refl)
+pub missing-read : (found : Option (List ℕ)) → found ≡ None → AreItemsRead found (Read (Ok []))
+missing-read found none = subst (λ found. AreItemsRead found (Read (Ok []))) (sym none) ([], refl, refl)
 
 -- the head is said by the other members
 pub head-same : (members others : List Pair) (head : Heading)

@@ -20,7 +20,7 @@ use crate::head::Head;
 use crate::layout::Layout;
 use board_base::{Bytes, List};
 use elem::{Element, push_element, push_elements};
-use elem_store::Store;
+use elem_store::{Store, push_stored};
 use json_text::{Member, Text, push_quote};
 use scene_json::{Lines, push_comma, push_member};
 use std::alloc::{AllocError, Global};
@@ -175,19 +175,5 @@ fn push_object(out: &mut Vec<u8>, members: &List<Member>) -> Result<(), AllocErr
         push_member(out, &member.name, &member.value)?;
     }
     out.push(b'}')?;
-    Ok(())
-}
-
-/// Appends the texts of all stored elements, in the order of their ids, with commas between them.
-fn push_stored(out: &mut Vec<u8>, store: &Store) -> Result<(), AllocError>
-    ensures { OnOk result (out.new.items ≡ out.old.items
-        ++ join_with_byte 44 (map element_text store.now.elements)) }
-{
-    for i in 0..store.len() {
-        if let Some(e) = store.at(i) {
-            push_comma(out, i)?;
-            push_element(out, e)?;
-        }
-    }
     Ok(())
 }

@@ -58,7 +58,7 @@ pub fn scene_of(alloc: Global, value: &Raw) -> Result<Scene, Stop<SceneFault>>
     if !has_value(&found, "type", "\"excalidraw\"") {
         return Err(Stop::Fault(SceneFault::NotScene));
     }
-    let Some(read) = given else {
+    let Elements::Read(read) = given else {
         return Err(Stop::Fault(SceneFault::Elements));
     };
     let Some(settings) = members_given(alloc, &found, "appState")? else {
@@ -79,13 +79,18 @@ pub fn scene_of(alloc: Global, value: &Raw) -> Result<Scene, Stop<SceneFault>>
     })
 }
 
+/// What came of the elements of a scene's object.
+#[derive(Drop)]
+enum Elements {
+    /// They were read, up to the first faulty one.
+    Read(Result<List<Element>, FaultyElement>),
+    /// They are in no array.
+    NoArray,
+}
+
 /// The members of a scene's object, but for an array of elements, and what came of the elements:
-/// they are read as they stand, while the object is taken apart. `None` where it is no object, and
-/// in place of the elements where they are in no array.
-fn taken_apart(
-    alloc: Global,
-    value: &Raw,
-) -> Result<Option<(List<Member>, Option<Result<List<Element>, FaultyElement>>)>, AllocError>
+/// they are read as they stand, while the object is taken apart. `None` where it is no object.
+fn taken_apart(alloc: Global, value: &Raw) -> Result<Option<(List<Member>, Elements)>, AllocError>
     ensures shape { result ≡ Ok None → (members : Items Pair) → IsObject value.now members → ⊥ }
     ensures taken { IfOk result (λ found. IfSome found
         (λ taken. IsTaken value.now (pairs taken.0) taken.1)) }
@@ -95,13 +100,13 @@ fn taken_apart(
     };
     let Some(mut objects) = walk else {
         if given(&before, "elements").is_some() {
-            return Ok(Some((before, None)));
+            return Ok(Some((before, Elements::NoArray)));
         }
-        return Ok(Some((before, Some(Ok(List::new(alloc))))));
+        return Ok(Some((before, Elements::Read(Ok(List::new(alloc))))));
     };
     let read = kept_aside(read_array(alloc, &mut objects))?;
     let found = objects.members_around(alloc, before)?;
-    Ok(Some((found, Some(read))))
+    Ok(Some((found, Elements::Read(read))))
 }
 
 /// The elements or the first fault among them.

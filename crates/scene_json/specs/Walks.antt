@@ -7,8 +7,9 @@ use Rattle.json_text.specs.Compact.{Member as Pair, member_text, array_text, obj
 use Rattle.json_text.specs.Members.{pairs}
 use Rattle.json_text.specs.Parts.{AreMembers}
 use Rattle.json_text.specs.Value.{IsCompact}
-use Rattle.json_text.specs.declared.text.Member.{Member}
 use Rattle.scene_json.specs.Passes.{left_text, behind_item}
+use Rattle.scene_json.specs.declared.parts.Item.{Item}
+use Rattle.scene_json.specs.declared.parts.Item.TheVariants.{Object, Other}
 
 -- the text, and the offset of the next item, or of the closing bracket where none is left
 pub record Walk : Type 0 where
@@ -32,10 +33,10 @@ pub record AreBehind (walk : Walk) (members : List Pair) : Type 0 where
   pub rest : List ℕ
   pub left : Leaves walk items (behind_item object rest (map member_text members))
 
--- The item has these members, or is no object.
-abbrev pub IsTakenApart : List ℕ → Option (List Member) → Type 0
-IsTakenApart item None = (members : List Pair) → item ≢ object_text members
-IsTakenApart item (Some members) =
+-- The item is an object with these members, or none.
+abbrev pub IsTakenApart : List ℕ → Item → Type 0
+IsTakenApart item Other = (members : List Pair) → item ≢ object_text members
+IsTakenApart item (Object members) =
     AreMembers 127 (pairs members) × (item ≡ object_text (pairs members))
 
 -- The object's members are taken up to an array of this name, whose items the walk is over, or all

@@ -17,6 +17,6 @@ pub use build::{
 pub use layout::{Lines, pretty};
 pub use named::{has_value, is_one_of, shaped, text_named, value_named, whole_named};
 pub use nesting::{depth_of, nests_at_most};
-pub use parts::{Objects, Shape, items, members, members_to, text_of};
+pub use parts::{Item, Objects, Shape, items, members, members_to, text_of};
 pub use scalar::{GREATEST_WHOLE, is_null, truth_of, whole_in, whole_of};
 pub use texts::texts_of;

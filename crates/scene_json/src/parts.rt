@@ -13,16 +13,13 @@ ghost use Rattle.scene_json.specs.Walks.{AreLeft, AreBehind, AreTakenTo, IsTaken
 
 use crate::nesting::after_string;
 use board_base::{List, Stop};
-use json_text::{Member, Raw, Text, inert_end, quiet_end, text_at};
+use json_text::{FEW_MEMBERS, Member, Raw, Text, inert_end, quiet_end, text_at};
 use std::alloc::{AllocError, Global};
 use std::marker::Model;
 
 /// The value is of another form.
 #[derive(Clone, Copy, Debug, PartialEq, Eq)]
 pub struct Shape;
-
-/// Room is made for so many members of an item at once, as an element has.
-const FEW: usize = 40;
 
 /// The text of a string. `Shape` comes exactly where the value is no string.
 pub fn text_of(alloc: Global, value: &Raw) -> Result<Text, Stop<Shape>>
@@ -162,6 +159,15 @@ fn stops_at(stop: Option<&str>, name: &Text, first: u8) -> bool
     }
 }
 
+/// An item of an array, taken apart.
+#[derive(Drop)]
+pub enum Item {
+    /// An object with these members.
+    Object(List<Member>),
+    /// Any other value.
+    Other,
+}
+
 /// A walk over the items of an array, in which each object is taken apart as it comes.
 #[derive(Drop)]
 pub struct Objects<'a> {
@@ -184,9 +190,8 @@ impl<'a> Model for Objects<'a> {
 }
 
 impl<'a> Objects<'a> {
-    /// The members of the next item, or `None` where it is no object. The outer `None` comes
-    /// exactly where no item is left.
-    pub fn next(&mut self, alloc: Global) -> Result<Option<Option<List<Member>>>, AllocError>
+    /// The next item. `None` comes exactly where no item is left.
+    pub fn next(&mut self, alloc: Global) -> Result<Option<Item>, AllocError>
         ensures next { IfOk result (λ found. (left : Items (Items ℕ)) → AreLeft self.old left
             → MatchOption found (left ≡ [])
             (λ next. (item : Items ℕ) × (others : Items (Items ℕ)) × (left ≡ item ∷ others)
@@ -235,12 +240,8 @@ impl<'a> Objects<'a> {
     }
 }
 
-/// The members of the item at an offset, or `None` where it is no object, and the offset after it.
-fn item_at(
-    alloc: Global,
-    array: &Raw,
-    at: usize,
-) -> Result<(Option<List<Member>>, usize), AllocError>
+/// The item at an offset, and the offset after it.
+fn item_at(alloc: Global, array: &Raw, at: usize) -> Result<(Item, usize), AllocError>
     requires { (item rest : Items ℕ) × Compacted (drop at array.now) item rest }
     ensures item { IfOk result (λ found. (item rest : Items ℕ)
         → Compacted (drop at array.now) item rest
@@ -249,11 +250,11 @@ fn item_at(
 {
     let bytes = array.as_bytes();
     if bytes[at] == b'{' {
-        let mut members = Vec::with_capacity(alloc, FEW)?;
+        let mut members = Vec::with_capacity(alloc, FEW_MEMBERS)?;
         let end = push_members(alloc, &mut members, array, at + 1, None)?;
-        return Ok((Some(List::from_vec(members)), end + 1));
+        return Ok((Item::Object(List::from_vec(members)), end + 1));
     }
-    Ok((None, next_end(bytes, at)))
+    Ok((Item::Other, next_end(bytes, at)))
 }
 
 /// Where the next item or member stands, or the closing bracket, behind the end of one.

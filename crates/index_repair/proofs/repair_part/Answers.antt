@@ -28,7 +28,7 @@ loop-key-preserved c =
           rw (w.new-is, w.low-is, w.run-is)
           (rw (
             w.in_ok-push-in-Some.ensures.items,
-            w.in_ok-push_between-in-Some.ensures,
+            w.in_ok-push_between-in-Some.ensures.pushed,
             w.in_ok-try_clone-in-Some.ensures,
           )
           (IsSoFar-kept (option_copied c.args.above) (option_copied c.loop-key.low) c.loop-key.run keys
@@ -49,7 +49,7 @@ module _ (c : goal.After-from_vec) where
 
   made : c.from_vec.result ≡ repaired_below (option_copied c.args.above) c.args.keys.now
   made =
-      c.from_vec.ensures ∙ c.in_ok-push_between.ensures
+      c.from_vec.ensures ∙ c.in_ok-push_between.ensures.pushed
       ∙ IsSoFar-made (option_copied c.args.above) (option_copied c.loop-key.low) c.loop-key.run
       c.as_slice-key-items.result.now c.loop-key.key-index c.loop-key.new.items over c.loop-key.invariant
       ∙ ap (repaired_below (option_copied c.args.above)) c.as_slice-key-items.ensures
@@ -62,7 +62,7 @@ module _ (c : goal.After-from_vec) where
 
   done : AreRepairedBelow (option_copied c.args.above) c.args.keys.now c.from_vec.result
   done = AreRepairedBelow-from (option_copied c.args.above) c.args.keys.now c.from_vec.result made
-      c.end_bytes-above.ensures.key c.requires are_keys
+      c.push_between-2.ensures.high_end c.requires are_keys
 
 pub returns-clause-exact : goal.returns-clause-exact
 returns-clause-exact c = made c

@@ -15,15 +15,15 @@ returns-in_err-read-clause-fault c =
     rw (p.1, p.2) (λ faulty e values left.
     let told = c.in_err-read.ensures.fault faulty (ap Err (stop-same _ _ _ e)) in
     let r = c.loop-elements.invariant.read values left in
-    let next = MatchOption-at_some _ _ c.in-Some.taken c.in-Some.is (c.in_ok-taken.ensures.next _ r.left) in
+    let next = MatchOption-at_some _ _ c.in-Some.item c.in-Some.is (c.in_ok-item.ensures.next _ r.left) in
     subst (λ place. IsFirstFaulty values place faulty.fault) (sym told.0)
     (IsReadTo-faulty values c.loop-elements.objects c.next.new.self c.loop-elements.place c.loop-elements.elements.items
     next.0 next.1 r next.2 next.3 faulty.fault
-    (c.read_members.ensures.fault faulty.fault told.1 next.0 next.4)))
+    (c.read_item.ensures.fault faulty.fault told.1 next.0 next.4)))
 
 pub loop-elements-preserved : goal.loop-elements-preserved
 loop-elements-preserved c =
-    let passed = rw c.in-Some.is at c.in_ok-taken.ensures.passed in
+    let passed = rw c.in-Some.is at c.in_ok-item.ensures.passed in
     record {
       few = omega (arith, c.loop-elements.invariant.few, passed);
       whole = elim c.match-read.branch [
@@ -31,14 +31,14 @@ loop-elements-preserved c =
             (All-push IsWholeElement c.loop-elements.elements.items w.in-Some-read.element
             c.loop-elements.invariant.whole
             (subst (λ found. IfSome found IsWholeElement) w.in-Some-read.is
-            (IfOk-at_ok _ c.in_ok-read.ensures.read c.read_members.ensures.whole)))
+            (IfOk-at_ok _ c.in_ok-read.ensures.read c.read_item.ensures.whole)))
         | in_default-read w ↦ rw w.elements-is c.loop-elements.invariant.whole
       ];
       behind = λ members are. c.next.ensures.behind members (c.loop-elements.invariant.behind members are);
       read = λ values left.
           let r = c.loop-elements.invariant.read values left in
-          let next = MatchOption-at_some _ _ c.in-Some.taken c.in-Some.is (c.in_ok-taken.ensures.next _ r.left) in
-          let read = (IfOk-at_ok _ c.in_ok-read.ensures.read c.read_members.ensures.read) next.0 next.4 in
+          let next = MatchOption-at_some _ _ c.in-Some.item c.in-Some.is (c.in_ok-item.ensures.next _ r.left) in
+          let read = (IfOk-at_ok _ c.in_ok-read.ensures.read c.read_item.ensures.read) next.0 next.4 in
           elim c.match-read.branch [
             | in-Some-read+in_ok-push w ↦ rw w.elements-is
                 (IsReadTo-more values c.loop-elements.objects c.next.new.self c.loop-elements.place
@@ -56,6 +56,6 @@ pub returns-clause-read : goal.returns-clause-read
 returns-clause-read c =
     λ values left.
     let r = c.loop-elements.invariant.read values left in
-    let none = MatchOption-at_none _ _ c.in_default.is (c.in_ok-taken.ensures.next _ r.left) in
+    let none = MatchOption-at_none _ _ c.in_default.is (c.in_ok-item.ensures.next _ r.left) in
     subst (AreRead values) (sym c.from_vec.ensures) (IsReadTo-all values c.loop-elements.objects c.loop-elements.place
     c.loop-elements.elements.items r none)

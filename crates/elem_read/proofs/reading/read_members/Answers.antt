@@ -7,81 +7,74 @@ use Rattle.json_text.specs.Members.{pairs}
 use Rattle.scene_json.proofs.CallerLemmas.{AreMembers-distinct}
 use Rattle.elem_read.specs.Reading.{IsFaultIn}
 use Rattle.elem_read.specs.declared.fault.ElemFault.TheVariants.{Depth}
-use Rattle.elem_read.proofs.NoSelections.{taken-object, selection, no_selection, given-nest, kind-stays, element-in, fault-in}
+use Rattle.elem_read.proofs.NoSelections.{selection, no_selection, given-nest, kind-stays, element-in, fault-in}
 use Rattle.elem_read.proofs.Parts.{stop-same}
 use Rattle.elem_read.proofs.Whole.{whole}
 use Rattle.elem_read.proofs.reading.read_members.Goals as goal
 
 pub returns-then-has_value-clause-read : goal.returns-then-has_value-clause-read
 unfolding quote
-returns-then-has_value-clause-read c = λ value taken.
-    let object = taken-object value c.args.taken c.in-Some.given taken c.in-Some.is in
-    selection value (pairs c.in-Some.given) object (c.has_value.ensures.0 c.if-has_value.true)
+returns-then-has_value-clause-read c = λ value object.
+    selection value (pairs c.args.given) object (c.has_value.ensures.0 c.if-has_value.true)
 
 pub returns-then-not-is_shallow-clause-fault : goal.returns-then-not-is_shallow-clause-fault
 unfolding quote
-returns-then-not-is_shallow-clause-fault c = λ fault e value taken.
-    let object = taken-object value c.args.taken c.in-Some.given taken c.in-Some.is in
-    let draws = no_selection value (pairs c.in-Some.given) object
+returns-then-not-is_shallow-clause-fault c = λ fault e value object.
+    let draws = no_selection value (pairs c.args.given) object
     (λ e. both_ways _ c.if-has_value.false (c.has_value.ensures.1 e)) in
     let same : Depth ≡ fault = cc in
     subst (IsFaultIn value) same (record {
-      members = pairs c.in-Some.given;
+      members = pairs c.args.given;
       no_selection = draws;
       deep = λ shallow. both_ways _ c.if-not-is_shallow.true ((c.is_shallow.ensures value object).1 shallow);
     })
 
 pub into_restored-requires : goal.into_restored-requires
 into_restored-requires c =
-    AreMembers-distinct 127 c.in-Some.given (taken-object c.requires.0 c.args.taken c.in-Some.given c.requires.1
-    c.in-Some.is).are_members
+    AreMembers-distinct 127 c.args.given c.requires.1.are_members
 
 pub element_of-requires-clause-kept : goal.element_of-requires-clause-kept
 unfolding quote
 element_of-requires-clause-kept c =
-    kind-stays (pairs c.in-Some.given) (pairs c.in_ok-restored.restored) c.in_ok-restored.ensures.restored
+    kind-stays (pairs c.args.given) (pairs c.in_ok-restored.restored) c.in_ok-restored.ensures.restored
     (λ e. both_ways _ c.if-has_value.false (c.has_value.ensures.1 e))
 
 pub element_of-requires-clause-nest : goal.element_of-requires-clause-nest
 element_of-requires-clause-nest c =
     let value = c.requires.0 in
-    let taken = c.requires.1 in
-    let object = taken-object value c.args.taken c.in-Some.given taken c.in-Some.is in
+    let object = c.requires.1 in
     let shallow = (c.is_shallow.ensures value object).0 c.if-not-is_shallow.false in
-    c.in_ok-restored.ensures.nests 119 (lit≤ tt) (given-nest value c.in-Some.given object shallow)
+    c.in_ok-restored.ensures.nests 119 (lit≤ tt) (given-nest value c.args.given object shallow)
 
 pub returns-in_err-element-clause-fault : goal.returns-in_err-element-clause-fault
 unfolding quote
 returns-in_err-element-clause-fault c =
     let p = err_from_is_err_and c.from_residual-in_err-element.result c.from_residual-in_err-element.ensures.1 in
-    rw (p.1, p.2) (λ fault e value taken.
-    let object = taken-object value c.args.taken c.in-Some.given taken c.in-Some.is in
-    let draws = no_selection value (pairs c.in-Some.given) object
+    rw (p.1, p.2) (λ fault e value object.
+    let draws = no_selection value (pairs c.args.given) object
     (λ e. both_ways _ c.if-has_value.false (c.has_value.ensures.1 e)) in
     let shallow = (c.is_shallow.ensures value object).0 c.if-not-is_shallow.false in
-    fault-in value (pairs c.in-Some.given) (pairs c.in_ok-restored.restored) fault draws shallow
+    fault-in value (pairs c.args.given) (pairs c.in_ok-restored.restored) fault draws shallow
     c.in_ok-restored.ensures.restored
     (c.in_err-element.ensures.fault fault (ap Err (stop-same _ _ _ e))))
 
 pub returns-clause-read : goal.returns-clause-read
 unfolding quote
-returns-clause-read c = λ value taken.
-    let object = taken-object value c.args.taken c.in-Some.given taken c.in-Some.is in
-    let draws = no_selection value (pairs c.in-Some.given) object
+returns-clause-read c = λ value object.
+    let draws = no_selection value (pairs c.args.given) object
     (λ e. both_ways _ c.if-has_value.false (c.has_value.ensures.1 e)) in
     let shallow = (c.is_shallow.ensures value object).0 c.if-not-is_shallow.false in
-    element-in value (pairs c.in-Some.given) (pairs c.in_ok-restored.restored) c.in_ok-element.element draws shallow
+    element-in value (pairs c.args.given) (pairs c.in_ok-restored.restored) c.in_ok-element.element draws shallow
     c.in_ok-restored.ensures.restored c.in_ok-element.ensures.says
 
 pub returns-clause-whole : goal.returns-clause-whole
 unfolding quote
 returns-clause-whole c =
     let value = c.requires.0 in
-    let taken = c.requires.1 in
-    let object = taken-object value c.args.taken c.in-Some.given taken c.in-Some.is in
-    let draws = no_selection value (pairs c.in-Some.given) object
+    let object = c.requires.1 in
+    let draws = no_selection value (pairs c.args.given) object
     (λ e. both_ways _ c.if-has_value.false (c.has_value.ensures.1 e)) in
     let shallow = (c.is_shallow.ensures value object).0 c.if-not-is_shallow.false in
     whole value c.in_ok-element.element
-    (element-in value (pairs c.in-Some.given) (pairs c.in_ok-restored.restored) c.in_ok-element.element draws shallow
+    (element-in value (pairs c.args.given) (pairs c.in_ok-restored.restored) c.in_ok-element.element draws shallow
     c.in_ok-restored.ensures.restored c.in_ok-element.ensures.says)

@@ -1,20 +1,27 @@
-use Rattle.std.proofs.Common.{ℕ, ◌+◌, arith}
+use Rattle.std.proofs.Common.{ℕ, ◌+◌, arith, rules}
 use Rattle.std.proofs.lemmas.List.{length-take}
 use Rattle.std.proofs.lemmas.Result.{err_from_is_err_and}
 use Rattle.board_ends.proofs.CallerLemmas.{Gave-part}
 use Rattle.intake.proofs.Streams.{HasTaken, taken-more}
 use Rattle.intake.proofs.input.read_texts.Goals as goal
 
-pub returns-in_err-count-clause-stopped : goal.returns-in_err-count-clause-stopped
-returns-in_err-count-clause-stopped g c =
+pub returns-in_err-count-clause-ends : goal.returns-in_err-count-clause-ends
+returns-in_err-count-clause-ends g c =
     let taken = c.pieces.invariant.taken in
     let some = Gave-part _ _ _ _ _ _ taken.given c.in_err-count.ensures.stopped in
     let p = err_from_is_err_and c.from_residual-in_err-count.result c.from_residual-in_err-count.ensures.1 in
-    rw p.1 (
-      some.0,
-      omega (arith, some.1, taken.width, length-take {A = ℕ}, c.min-wanted.ensures, c.pieces.piece.ok.0),
-      some.2,
-    )
+    record {
+      end = search rules;
+      failed = search rules;
+      failed_within = search rules;
+      too_long = search rules;
+      stopped = rw p.1 (
+        some.0,
+        omega (arith, some.1, taken.width, length-take {A = ℕ}, c.min-wanted.ensures, c.pieces.piece.ok.0),
+        some.2,
+      );
+      counted = omega (arith, c.in_err-count.ensures.counted, c.pieces.invariant.counted);
+    }
 
 -- the bytes that were taken, with the piece that came
 pub returns-then-count-eq0-clause-read : goal.returns-then-count-eq0-clause-read

@@ -24,7 +24,7 @@ returns-clause-exact c =
     (c.from_vec.ensures
     ∙ scene-written head c.args.store.now.elements (pairs c.in_ok-files.files) c.in_ok-state.state.items
     c.push_front.new.out.items c.push_stored.new.out.items c.push_back.new.out.items
-    c.in_ok-push_front.ensures.text c.in_ok-push_stored.ensures c.in_ok-push_back.ensures.text
+    c.in_ok-push_front.ensures.text c.in_ok-push_stored.ensures.text c.in_ok-push_back.ensures.text
     ∙ ap (λ start. start ++ object_text (scene_members head c.args.store.now.elements (pairs c.in_ok-files.files)))
     c.in_ok-state.ensures.items
     ∙ state-told head c.args.store.now.elements (pairs c.in_ok-files.files) c.in_ok-files.ensures.exact)

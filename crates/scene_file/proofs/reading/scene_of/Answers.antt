@@ -37,7 +37,7 @@ unfolding quote
 returns-in_default-2-clause-fault c = λ fault e.
     let t = rw c.in-Some.is at c.in_ok-found.ensures.taken in
     let kind = is-scene t.members (sym (t.others (codes "type") refl) ∙ c.if-not-has_value.ensures.0 refl) in
-    let items = subst (AreItemsRead (value_unless_null (codes "elements") t.members)) c.in-Some-given.is t.elements in
+    let items = subst (AreItemsRead (value_unless_null (codes "elements") t.members)) c.in-Read.is t.elements in
     let none : c.in_ok-settings.field-0 ≡ None = cc in
     let lacks = MatchOption-at_none _ _ none c.in_ok-settings.ensures in
     let same = given-same (codes "appState") (pairs c.in-Some.found) t.members (t.others (codes "appState") refl) in
@@ -55,7 +55,7 @@ unfolding quote
 returns-in_default-3-clause-fault c = λ fault e.
     let t = rw c.in-Some.is at c.in_ok-found.ensures.taken in
     let kind = is-scene t.members (sym (t.others (codes "type") refl) ∙ c.if-not-has_value.ensures.0 refl) in
-    let items = subst (AreItemsRead (value_unless_null (codes "elements") t.members)) c.in-Some-given.is t.elements in
+    let items = subst (AreItemsRead (value_unless_null (codes "elements") t.members)) c.in-Read.is t.elements in
     let settings = subst (λ given. HasMembers given (pairs c.in-Some-2.settings))
     (given-same (codes "appState") (pairs c.in-Some.found) t.members (t.others (codes "appState") refl))
     (MatchOption-at_some _ _ c.in-Some-2.settings c.in-Some-2.is c.in_ok-settings.ensures) in
@@ -76,7 +76,7 @@ unfolding quote
 returns-in-Err-clause-fault c = λ fault e.
     let t = rw c.in-Some.is at c.in_ok-found.ensures.taken in
     let kind = is-scene t.members (sym (t.others (codes "type") refl) ∙ c.if-not-has_value.ensures.0 refl) in
-    let items = subst (AreItemsRead (value_unless_null (codes "elements") t.members)) c.in-Some-given.is t.elements in
+    let items = subst (AreItemsRead (value_unless_null (codes "elements") t.members)) c.in-Read.is t.elements in
     let settings = subst (λ given. HasMembers given (pairs c.in-Some-2.settings))
     (given-same (codes "appState") (pairs c.in-Some.found) t.members (t.others (codes "appState") refl))
     (MatchOption-at_some _ _ c.in-Some-2.settings c.in-Some-2.is c.in_ok-settings.ensures) in
@@ -97,7 +97,7 @@ pub returns-clause-scene : goal.returns-clause-scene
 unfolding quote
 returns-clause-scene c =
     let t = rw c.in-Some.is at c.in_ok-found.ensures.taken in
-    let items = subst (AreItemsRead (value_unless_null (codes "elements") t.members)) c.in-Some-given.is t.elements in
+    let items = subst (AreItemsRead (value_unless_null (codes "elements") t.members)) c.in-Read.is t.elements in
     record {
       members = t.members;
       object = t.object;

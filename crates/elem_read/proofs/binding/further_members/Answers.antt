@@ -8,7 +8,7 @@ use Rattle.json_text.specs.Members.{pairs}
 use Rattle.json_text.specs.declared.text.Member.{Member}
 use Rattle.elem.specs.Forms.{find_in, AreOthers}
 use Rattle.elem_read.proofs.Others.{kept, sorted-others}
-use Rattle.elem_read.proofs.binding.further.Goals as goal
+use Rattle.elem_read.proofs.binding.further_members.Goals as goal
 
 abbrev lower : Member → Member → Bool
 lower a b = is_lt (slice_cmp nat_cmp a.name b.name)

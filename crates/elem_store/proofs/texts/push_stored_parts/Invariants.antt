@@ -2,7 +2,7 @@
 use Rattle.std.proofs.Common.{◌≡◌, ◌++◌, map, take}
 use Rattle.std.specs.List.{join_with_byte}
 use Rattle.elem.specs.Texts.{element_text}
-use Rattle.room_core.proofs.texts.push_stored.Given as goal
+use Rattle.elem_store.proofs.texts.push_stored_parts.Given as goal
 
 abbrev pub invariant-loop-i : goal.invariant-loop-i
 invariant-loop-i l =

@@ -1,9 +1,0 @@
--- The first elements' texts stand between commas.
-use Rattle.std.proofs.Common.{◌≡◌, ◌++◌, map, take}
-use Rattle.std.specs.List.{join_with_byte}
-use Rattle.elem.specs.Texts.{element_text}
-use Rattle.scene_file.proofs.printing.push_stored.Given as goal
-
-abbrev pub invariant-loop-i : goal.invariant-loop-i
-invariant-loop-i l =
-    l.out.items ≡ l.initial.out.items ++ join_with_byte 44 (map element_text (take l.i l.store.elements))
