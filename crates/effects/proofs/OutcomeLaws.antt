@@ -9,13 +9,14 @@ use Rattle.frac_keys.specs.Keys.{bytes_less}
 use Rattle.frac_keys.specs.Rising.{ends_rise, rise_between, are_rising}
 use Rattle.elem.specs.ElementValue.{ElementValue}
 use Rattle.elem.specs.Order.{beats, unstamped, has_id, HaveDistinctIds}
+use Rattle.elem.specs.Stamp.{stamped}
 use Rattle.elem_store.specs.Updates.{element_of, ids_of, is_newer, is_taken}
 use Rattle.elem_store.proofs.CallerLemmas.{same_id, Contains-head, Contains-cons, Contains-cases, find-Some, find-None, member}
 use Rattle.delta.specs.Pairs.{pair_with, IsChanged}
 use Rattle.view.specs.Shown.{is_live}
 use Rattle.board_commands.specs.declared.command.Command.{Command}
 use Rattle.effects.specs.declared.refusal.Refusal.{Refusal}
-use Rattle.effects.specs.Changed.{stamped, is_changed, is_full, change_of, changes_of, created, with_created, outcome, outcome_from, outcome_unless, refusal_at}
+use Rattle.effects.specs.Changed.{is_changed, is_full, change_of, changes_of, created, with_created, outcome, outcome_from, outcome_unless, refusal_at}
 use Rattle.effects.specs.Differing.{differs}
 use Rattle.effects.specs.Effects.{effect}
 use Rattle.effects.specs.Given.{stored_after, ChangesStored, IsNew}
@@ -142,8 +143,10 @@ module _ (stored shown : List ElementValue) (command : Command) (time nonce : �
   abbrev changes : List ElementValue
   changes = changes_of makes time nonce stored
 
-  reached : (r : Option Refusal) → outcome_unless r stored shown command time nonce ≡ Ok given → (r ≡ None)
-      × (outcome_unless None stored shown command time nonce ≡ Ok given)
+  abbrev unrefused : Result (List ElementValue) Refusal
+  unrefused = outcome_from (find (is_full makes) stored) (created shown command time nonce) changes
+
+  reached : (r : Option Refusal) → outcome_unless r unrefused ≡ Ok given → (r ≡ None) × (unrefused ≡ Ok given)
   reached None h = (refl, h)
   reached (Some refusal) h = absurd (err-ok refusal given h)
 

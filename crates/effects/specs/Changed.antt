@@ -1,10 +1,11 @@
 -- The changed elements of a command, or its refusal. This project's own.
-use Rattle.std.specs.Prelude.{ℕ, ◌+◌, ◌==◌, List, [], ◌∷◌, Bool, ◌&&◌, Option, Some, None, is_some, Result, Ok, Err, find, filter_map, if◌then◌else◌}
+use Rattle.std.specs.Prelude.{ℕ, ◌==◌, List, [], ◌∷◌, Bool, ◌&&◌, Option, Some, None, is_some, Result, Ok, Err, find, filter_map, if◌then◌else◌}
 use Rattle.board_base.specs.declared.stop.Stop.{Stop}
 use Rattle.board_base.specs.declared.stop.Stop.TheVariants.{Fault, Memory}
 use Rattle.frac_keys.specs.Keys.{bytes_less}
 use Rattle.elem.specs.ElementValue.{ElementValue}
 use Rattle.elem.specs.Facts.{greatest_whole}
+use Rattle.elem.specs.Stamp.{stamped}
 use Rattle.elem_store.specs.Updates.{element_of}
 use Rattle.view.specs.Shown.{is_live, with_element}
 use Rattle.board_commands.specs.declared.command.Command.{Command}
@@ -17,10 +18,6 @@ use Rattle.effects.specs.Differing.{differs}
 use Rattle.effects.specs.Effects.{effect}
 use Rattle.effects.specs.Placing.{key_at}
 use Rattle.effects.specs.Refusals.{refusal_of}
-
--- the element with the stamp of a change: the next version, the nonce and the time
-abbrev pub stamped : ℕ → ℕ → ElementValue → ElementValue
-stamped time nonce e = record e { version = e.version + 1; nonce = nonce; updated = time }
 
 -- whether a function changes a live element outside the stamp
 abbrev pub is_changed : (ElementValue → ElementValue) → ElementValue → Bool
@@ -76,20 +73,21 @@ abbrev pub outcome_from : Option ElementValue → List ElementValue → List Ele
 outcome_from (Some full) new changes = Err (refusal_at full)
 outcome_from None new changes = Ok (with_created new changes)
 
+-- a refusal, or what is made where there is none
+abbrev pub outcome_unless : Option Refusal → Result (List ElementValue) Refusal
+    → Result (List ElementValue) Refusal
+outcome_unless (Some refusal) made = Err refusal
+outcome_unless None made = made
+
 -- The changed elements of a command in the order of their ids, or its refusal: of the stored
 -- elements in the order of their ids, of the shown ones in theirs, and for this time and nonce.
-abbrev pub outcome_unless : Option Refusal → List ElementValue → List ElementValue → Command → ℕ
-    → ℕ → Result (List ElementValue) Refusal
-outcome_unless (Some refusal) stored shown command time nonce = Err refusal
-outcome_unless None stored shown command time nonce =
-    outcome_from (find (is_full (effect stored shown command)) stored)
-    (created shown command time nonce)
-    (changes_of (effect stored shown command) time nonce stored)
-
 abbrev pub outcome : List ElementValue → List ElementValue → Command → ℕ → ℕ
     → Result (List ElementValue) Refusal
 outcome stored shown command time nonce =
-    outcome_unless (refusal_of stored shown command) stored shown command time nonce
+    outcome_unless (refusal_of stored shown command)
+    (outcome_from (find (is_full (effect stored shown command)) stored)
+    (created shown command time nonce)
+    (changes_of (effect stored shown command) time nonce stored))
 
 -- The call stopped by a fault of which this holds, or for want of memory.
 abbrev pub OnFault : Stop Refusal → (Refusal → Type 0) → Type 0

@@ -8,6 +8,7 @@ use Rattle.frac_keys.specs.Keys.{bytes_less, is_key}
 use Rattle.elem.specs.ElementValue.{ElementValue}
 use Rattle.elem.specs.Facts.{greatest_whole}
 use Rattle.elem.specs.Said.{AreElements}
+use Rattle.elem.specs.Stamp.{stamped}
 use Rattle.elem_store.specs.Updates.{element_of}
 use Rattle.copies.specs.Copies.{copies_of}
 use Rattle.copies.proofs.CallerLemmas.{copies-elements}
@@ -22,7 +23,7 @@ use Rattle.board_commands.specs.declared.command.Spot.{Spot}
 use Rattle.effects.specs.declared.refusal.Refusal.{Refusal}
 use Rattle.effects.specs.Copying.{as_new, copies_at, shown_among}
 use Rattle.effects.specs.Naming.{is_among}
-use Rattle.effects.specs.Changed.{stamped, is_changed, is_full, change_of, changes_of, created, with_created, with_new, outcome, outcome_from, outcome_unless}
+use Rattle.effects.specs.Changed.{is_changed, is_full, change_of, changes_of, created, with_created, with_new, outcome, outcome_from, outcome_unless}
 use Rattle.effects.specs.Effects.{effect}
 use Rattle.board_commands.specs.Limits.{IsWithinLimits}
 use Rattle.effects.specs.Placing.{key_at, keys_at}
@@ -173,7 +174,9 @@ given-kept stored view given command time nonce all seen rise limits written ear
         (λ e. ap (λ (s : Self). s.version) (effect-keeps stored view command e)) early small stored all found))
 
     by-refusal : (o : Option Refusal) → refusal_of stored view command ≡ o
-        → outcome_unless o stored view command time nonce ≡ Ok given → AreKept given
+        → outcome_unless o (outcome_from (find (is_full (effect stored view command)) stored)
+        (created view command time nonce) (changes_of (effect stored view command) time nonce stored)) ≡ Ok given
+        → AreKept given
     by-refusal (Some refusal) refused h = cc
     by-refusal None free h = by-full (find (is_full (effect stored view command)) stored) free refl h
 
