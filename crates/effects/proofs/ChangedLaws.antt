@@ -48,18 +48,18 @@ mapped-same f g (e ∷ es) same =
     ∙ ap (cons_option (g e)) (mapped-same f g es (λ d c. same d (Contains-cons e es d c)))
 
 module _ (stored shown : List ElementValue) (command : Command) (time nonce : ℕ) where
+  pub outcome-refused : (refusal : Refusal) → refusal_of stored shown command ≡ Some refusal
+      → outcome stored shown command time nonce ≡ Err refusal
+  outcome-refused refusal is = ap (λ o. outcome_unless o stored shown command time nonce) is
+
   abbrev found : (ElementValue → ElementValue) → Result (List ElementValue) Refusal
   found makes =
       outcome_from (find (is_full makes) stored) (created shown command time nonce) (changes_of makes time nonce stored)
 
-  pub outcome-refused : (refusal : Refusal) → refusal_of stored shown command ≡ Some refusal
-      → outcome stored shown command time nonce ≡ Err refusal
-  outcome-refused refusal is = ap (λ o. outcome_unless o (found (effect stored shown command))) is
-
   open-outcome : (prepared : Effect) → refusal_of stored shown command ≡ None → Prepares stored shown command prepared
       → outcome stored shown command time nonce ≡ found (made_by prepared)
   open-outcome prepared none prepares =
-      ap (λ o. outcome_unless o (found (effect stored shown command))) none
+      ap (λ o. outcome_unless o stored shown command time nonce) none
       ∙ ap (λ o. outcome_from o (created shown command time nonce)
       (changes_of (effect stored shown command) time nonce stored))
       (find-same (is_full (effect stored shown command)) (is_full (made_by prepared)) stored (λ e c. same-full e c))

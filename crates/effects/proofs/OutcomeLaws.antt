@@ -143,10 +143,8 @@ module _ (stored shown : List ElementValue) (command : Command) (time nonce : �
   abbrev changes : List ElementValue
   changes = changes_of makes time nonce stored
 
-  abbrev unrefused : Result (List ElementValue) Refusal
-  unrefused = outcome_from (find (is_full makes) stored) (created shown command time nonce) changes
-
-  reached : (r : Option Refusal) → outcome_unless r unrefused ≡ Ok given → (r ≡ None) × (unrefused ≡ Ok given)
+  reached : (r : Option Refusal) → outcome_unless r stored shown command time nonce ≡ Ok given → (r ≡ None)
+      × (outcome_unless None stored shown command time nonce ≡ Ok given)
   reached None h = (refl, h)
   reached (Some refusal) h = absurd (err-ok refusal given h)
 

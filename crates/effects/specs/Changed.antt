@@ -73,21 +73,20 @@ abbrev pub outcome_from : Option ElementValue → List ElementValue → List Ele
 outcome_from (Some full) new changes = Err (refusal_at full)
 outcome_from None new changes = Ok (with_created new changes)
 
--- a refusal, or what is made where there is none
-abbrev pub outcome_unless : Option Refusal → Result (List ElementValue) Refusal
-    → Result (List ElementValue) Refusal
-outcome_unless (Some refusal) made = Err refusal
-outcome_unless None made = made
-
 -- The changed elements of a command in the order of their ids, or its refusal: of the stored
 -- elements in the order of their ids, of the shown ones in theirs, and for this time and nonce.
+abbrev pub outcome_unless : Option Refusal → List ElementValue → List ElementValue → Command → ℕ
+    → ℕ → Result (List ElementValue) Refusal
+outcome_unless (Some refusal) stored shown command time nonce = Err refusal
+outcome_unless None stored shown command time nonce =
+    outcome_from (find (is_full (effect stored shown command)) stored)
+    (created shown command time nonce)
+    (changes_of (effect stored shown command) time nonce stored)
+
 abbrev pub outcome : List ElementValue → List ElementValue → Command → ℕ → ℕ
     → Result (List ElementValue) Refusal
 outcome stored shown command time nonce =
-    outcome_unless (refusal_of stored shown command)
-    (outcome_from (find (is_full (effect stored shown command)) stored)
-    (created shown command time nonce)
-    (changes_of (effect stored shown command) time nonce stored))
+    outcome_unless (refusal_of stored shown command) stored shown command time nonce
 
 -- The call stopped by a fault of which this holds, or for want of memory.
 abbrev pub OnFault : Stop Refusal → (Refusal → Type 0) → Type 0

@@ -174,9 +174,7 @@ given-kept stored view given command time nonce all seen rise limits written ear
         (λ e. ap (λ (s : Self). s.version) (effect-keeps stored view command e)) early small stored all found))
 
     by-refusal : (o : Option Refusal) → refusal_of stored view command ≡ o
-        → outcome_unless o (outcome_from (find (is_full (effect stored view command)) stored)
-        (created view command time nonce) (changes_of (effect stored view command) time nonce stored)) ≡ Ok given
-        → AreKept given
+        → outcome_unless o stored view command time nonce ≡ Ok given → AreKept given
     by-refusal (Some refusal) refused h = cc
     by-refusal None free h = by-full (find (is_full (effect stored view command)) stored) free refl h
 
