@@ -1,9 +1,10 @@
 //! The stamp of a change.
 
-ghost use Rattle.std.specs.Prelude.{◌≡◌, ◌+◌, ◌≤◌, ◌↔◌, OnOk, OnErr, IsErr};
+ghost use Rattle.std.specs.Prelude.{◌≡◌, ◌↔◌, OnOk, OnErr, IsErr};
 ghost use Rattle.elem.specs.Facts.{greatest_whole};
+ghost use Rattle.elem.specs.Stamp.{stamped};
 
-use elem::Element;
+use elem::{Element, Stamp};
 use json_text::Text;
 use scene_json::GREATEST_WHOLE;
 
@@ -17,14 +18,8 @@ pub struct VersionFull(pub Text);
 
 /// Raises the version by one and sets the nonce and the time. `AtLimit` comes exactly at the
 /// greatest version. It takes no memory.
-pub fn stamp(e: &mut Element, time: u64, nonce: u64) -> Result<(), AtLimit>
-    requires time { time ≤ greatest_whole }
-    requires nonce { nonce ≤ greatest_whole }
-    ensures ok { OnOk result (e.new ≡ record e.old {
-      version = e.old.version + 1;
-      nonce = nonce;
-      updated = time;
-    }) }
+pub fn stamp(e: &mut Element, stamp: Stamp) -> Result<(), AtLimit>
+    ensures ok { OnOk result (e.new ≡ stamped stamp.time stamp.nonce e.old) }
     ensures limit { IsErr result ↔ (e.old.version ≡ greatest_whole) }
     ensures err { OnErr result (e.new ≡ e.old) }
 {
@@ -32,7 +27,7 @@ pub fn stamp(e: &mut Element, time: u64, nonce: u64) -> Result<(), AtLimit>
         return Err(AtLimit);
     }
     e.version += 1;
-    e.nonce = nonce;
-    e.updated = time;
+    e.nonce = stamp.nonce;
+    e.updated = stamp.time;
     Ok(())
 }

@@ -15,6 +15,7 @@ use Rattle.elem_store.specs.Updates.{element_of, ids_of}
 use Rattle.elem_store.proofs.CallerLemmas.{Contains-head}
 use Rattle.links.specs.Entries.{arrow_entry, lists}
 use Rattle.links.specs.Names.{is_id, is_arrow, target_of}
+use Rattle.links.specs.Tables.{with_listing_entry}
 use Rattle.view.specs.Shown.{is_live}
 use Rattle.board_commands.specs.declared.command.Command.{Command}
 use Rattle.board_commands.specs.declared.command.Command.TheVariants as commands
@@ -26,7 +27,7 @@ use Rattle.effects.specs.Deleting.{without_names, has_gone_names}
 use Rattle.effects.specs.Effects.{effect}
 use Rattle.effects.specs.Given.{stored_after, Stays, Becomes}
 use Rattle.effects.specs.Keeping.{unbound_rest, BindKeeps}
-use Rattle.effects.specs.Linking.{end_at, opposite, with_end, with_end_of, listed, unlisted, with_listing_entry, without_listing_entry, bound_to, old_target}
+use Rattle.effects.specs.Linking.{end_at, opposite, with_end, with_end_of, listed, unlisted, without_listing_entry, bound_to, old_target}
 use Rattle.effects.specs.Naming.{is_among, apart_from}
 use Rattle.effects.specs.Placing.{with_view_key, key_at, key_in}
 use Rattle.effects.specs.Refusals.{is_kind_of, spot_ids}
@@ -41,7 +42,7 @@ use Rattle.effects.proofs.OutcomeLaws.{none-misfit, created-given}
 -- ---- listings and ends
 -- a listing with an entry and then without it has the others
 dropped-added : (entry : BoundRef) (entries : List BoundRef)
-    → without_listing_entry entry (with_listing_entry entry entries) ≡ without_listing_entry entry entries
+    → without_listing_entry entry (with_listing_entry entries entry) ≡ without_listing_entry entry entries
 dropped-added entry entries = elim (cases_Bool (lists entries entry)) [
   | inl t ↦ ap (without_listing_entry entry) (cond-true (lists entries entry) entries (entries ++ entry ∷ []) t)
   | inr f ↦ ap (without_listing_entry entry) (cond-false (lists entries entry) entries (entries ++ entry ∷ []) f)
@@ -93,7 +94,7 @@ module _ (arrow : List ℕ) (side : Side) (binding : Option Binding) (old : Opti
 
   -- the listing of an element of an id, which gets the entry if it is the target
   abbrev listing : List ℕ → List BoundRef → List BoundRef
-  listing id bound = if is_id id (target_of binding) then with_listing_entry entry bound else bound
+  listing id bound = if is_id id (target_of binding) then with_listing_entry bound entry else bound
 
   one-id : one.id ≡ e.id
   one-id = ap (λ (s : Self). s.id) (with_end_of-keeps arrow side binding e)
@@ -106,19 +107,19 @@ module _ (arrow : List ℕ) (side : Side) (binding : Option Binding) (old : Opti
       either-bound (is_id two.id gone) two (without_listing_entry entry two.bound)
       ∙ ap (λ (i : List ℕ). unlisting gone entry i two.bound) two-id
       ∙ ap (unlisting gone entry e.id)
-      (either-bound (is_id one.id (target_of binding)) one (with_listing_entry entry one.bound)
+      (either-bound (is_id one.id (target_of binding)) one (with_listing_entry one.bound entry)
       ∙ ap (λ (i : List ℕ). listing i one.bound) one-id
       ∙ ap (listing e.id) (ended-bound side is-it e binding))
 
   bound_to-end : (which : Side) → end_at which (bound_to arrow side binding old e) ≡ end_at which one
   bound_to-end which =
       end-either which (is_id two.id gone) two (without_listing_entry entry two.bound)
-      ∙ end-either which (is_id one.id (target_of binding)) one (with_listing_entry entry one.bound)
+      ∙ end-either which (is_id one.id (target_of binding)) one (with_listing_entry one.bound entry)
 
   pub bound_to-rest : unbound_rest (bound_to arrow side binding old e) ≡ unbound_rest e
   bound_to-rest =
       either-unbound (is_id two.id gone) two (without_listing_entry entry two.bound)
-      ∙ either-unbound (is_id one.id (target_of binding)) one (with_listing_entry entry one.bound)
+      ∙ either-unbound (is_id one.id (target_of binding)) one (with_listing_entry one.bound entry)
       ∙ ended-rest side is-it e binding
 
   pub bound_to-opposite : end_at (opposite side) (bound_to arrow side binding old e) ≡ end_at (opposite side) e
@@ -146,7 +147,7 @@ module _ (arrow : List ℕ) (side : Side) (binding : Option Binding) (old : Opti
       bound_to-bound
       ∙ cond-false (is_id e.id gone) (without_listing_entry entry (listing e.id e.bound)) (listing e.id e.bound)
       (apart-still e.id (target_of binding) old no-old)
-      ∙ cond-false (is_id e.id (target_of binding)) (with_listing_entry entry e.bound) e.bound
+      ∙ cond-false (is_id e.id (target_of binding)) (with_listing_entry e.bound entry) e.bound
       (is_id-apart e.id (target_of binding) no-target)
 
   pub bound_to-others : without_listing_entry entry (bound_to arrow side binding old e).bound
@@ -156,10 +157,10 @@ module _ (arrow : List ℕ) (side : Side) (binding : Option Binding) (old : Opti
       ∙ unlisting-others gone entry e.id (listing e.id e.bound)
       ∙ (elim (cases_Bool (is_id e.id (target_of binding))) [
         | inl t ↦ ap (without_listing_entry entry)
-            (cond-true (is_id e.id (target_of binding)) (with_listing_entry entry e.bound) e.bound t)
+            (cond-true (is_id e.id (target_of binding)) (with_listing_entry e.bound entry) e.bound t)
             ∙ dropped-added entry e.bound
         | inr f ↦ ap (without_listing_entry entry)
-            (cond-false (is_id e.id (target_of binding)) (with_listing_entry entry e.bound) e.bound f)
+            (cond-false (is_id e.id (target_of binding)) (with_listing_entry e.bound entry) e.bound f)
       ])
 
   pub bound_to-left : is_id e.id gone ≡ true → lists (bound_to arrow side binding old e).bound entry ≡ false
@@ -172,7 +173,7 @@ module _ (arrow : List ℕ) (side : Side) (binding : Option Binding) (old : Opti
   bound_to-other no-arrow no-target no-old =
       ap (λ (d : ElementValue). unlisted gone entry (listed (target_of binding) entry d)) (one-other no-arrow)
       ∙ ap (unlisted gone entry) (cond-false (is_id e.id (target_of binding))
-      (record e { bound = with_listing_entry entry e.bound }) e (is_id-apart e.id (target_of binding) no-target))
+      (record e { bound = with_listing_entry e.bound entry }) e (is_id-apart e.id (target_of binding) no-target))
       ∙ cond-false (is_id e.id gone) (record e { bound = without_listing_entry entry e.bound }) e
       (apart-still e.id (target_of binding) old no-old)
 

@@ -8,6 +8,7 @@ use Rattle.frac_keys.specs.Rising.{are_rising}
 use Rattle.elem.specs.ElementValue.{ElementValue}
 use Rattle.elem.specs.Facts.{greatest_whole}
 use Rattle.elem.specs.Order.{has_id, HaveDistinctIds}
+use Rattle.elem.specs.Stamp.{stamped}
 use Rattle.elem_store.specs.Updates.{ids_of}
 use Rattle.elem_store.proofs.CallerLemmas.{Contains-cons, Contains-head, find-None}
 use Rattle.index_repair.specs.Keyed.{keyed}
@@ -19,7 +20,7 @@ use Rattle.board_commands.specs.declared.command.Spot.{Spot}
 use Rattle.board_commands.specs.Limits.{IsWithinLimits}
 use Rattle.effects.specs.declared.refusal.Refusal.{Refusal}
 use Rattle.effects.specs.declared.effect.Effect.{Effect}
-use Rattle.effects.specs.Changed.{stamped, is_changed, is_full, change_of, changes_of, created, created_at, with_created, outcome, outcome_from, outcome_unless, refusal_at}
+use Rattle.effects.specs.Changed.{is_changed, is_full, change_of, changes_of, created, created_at, with_created, outcome, outcome_from, outcome_unless, refusal_at}
 use Rattle.effects.specs.Copying.{as_new, copies_at, shown_among}
 use Rattle.effects.specs.Differing.{differs}
 use Rattle.effects.specs.Effects.{effect}

@@ -20,6 +20,7 @@ use Rattle.links.specs.Arrows.{names_target}
 use Rattle.elem.specs.Listings.{same_listing_entry}
 use Rattle.links.specs.Entries.{arrow_entry, lists}
 use Rattle.links.specs.Names.{is_id, is_arrow, target_of}
+use Rattle.links.specs.Tables.{with_listing_entry}
 use Rattle.index_repair.specs.Keyed.{index_of, HaveRisingKeys, HaveKeysOrNone}
 use Rattle.view.specs.Shown.{is_live}
 use Rattle.board_commands.specs.declared.command.Command.{Command}
@@ -33,7 +34,7 @@ use Rattle.effects.specs.Changed.{outcome, created_at}
 use Rattle.effects.specs.Deleting.{kept_name, kept_end, kept_entries, without_names, deleted_from, has_gone_names}
 use Rattle.effects.specs.Effects.{effect}
 use Rattle.effects.specs.Given.{stored_after}
-use Rattle.effects.specs.Linking.{end_at, with_end, with_end_of, listed, unlisted, with_listing_entry, without_listing_entry, old_target}
+use Rattle.effects.specs.Linking.{end_at, with_end, with_end_of, listed, unlisted, without_listing_entry, old_target}
 use Rattle.effects.specs.Naming.{is_among, is_some_that, apart_from}
 use Rattle.effects.specs.Placing.{Gap, is_of, others, first_key, last_key_or, gap_above, gap_at, gap_of, lies_within, key_within, key_at, key_in, with_view_key}
 use Rattle.effects.specs.Refusals.{is_kind_of, spot_ids, unless_right}
@@ -109,7 +110,7 @@ unnamed gone e =
 
 -- what lists the entry
 pub lists-added : (entry : BoundRef) (entries : List BoundRef) → same_listing_entry entry entry ≡ true
-    → lists (with_listing_entry entry entries) entry ≡ true
+    → lists (with_listing_entry entries entry) entry ≡ true
 lists-added entry entries own = elim (cases_Bool (lists entries entry)) [
   | inl t ↦ ap (λ es. lists es entry) (cond-true (lists entries entry) entries (entries ++ entry ∷ []) t) ∙ t
   | inr f ↦ ap (λ es. lists es entry) (cond-false (lists entries entry) entries (entries ++ entry ∷ []) f)
@@ -131,7 +132,7 @@ lists-bound : (target : List ℕ) (entry : BoundRef) (old : Option (List ℕ)) (
     → same_listing_entry entry entry ≡ true
     → lists (unlisted (apart_from (Some target) old) entry (listed (Some target) entry e)).bound entry ≡ true
 lists-bound target entry old e is own =
-    let more = record e { bound = with_listing_entry entry e.bound } in
+    let more = record e { bound = with_listing_entry e.bound entry } in
     let one : listed (Some target) entry e ≡ more =
     cond-true (bytes_eq e.id target) more e (subst (λ i. bytes_eq e.id i ≡ true) is (bytes_eq-same e.id)) in
     let two : unlisted (apart_from (Some target) old) entry more ≡ more =
@@ -167,7 +168,7 @@ module _ (stored shown : List ElementValue) (time nonce : ℕ) (given : List Ele
         ∙ end-either side (is_id listing.id (apart_from (target_of binding) (old_target stored arrow side))) listing
         (without_listing_entry (arrow_entry arrow) listing.bound)
         ∙ end-either side (is_id ended.id (target_of binding)) ended
-        (with_listing_entry (arrow_entry arrow) ended.bound)
+        (with_listing_entry ended.bound (arrow_entry arrow))
         ∙ ap (end_at side) (cond-true (bytes_eq arrow old.id && is_arrow old.kind) (with_end side binding old) old
         (and_from (bytes_eq arrow old.id) (is_arrow old.kind)
         (subst (λ i. bytes_eq arrow i ≡ true) own (bytes_eq-same arrow)) kind))

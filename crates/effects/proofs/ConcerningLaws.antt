@@ -25,6 +25,7 @@ use Rattle.links.specs.Entries.{lists}
 use Rattle.links.specs.Names.{is_id, is_arrow, is_text, target_of, end_names, has_end_at, names_container}
 use Rattle.links.specs.Rows.{is_for, namer_of}
 use Rattle.links.specs.Steps.{names_id}
+use Rattle.links.specs.Tables.{with_listing_entry}
 use Rattle.links.proofs.CallerLemmas.{list_any-from, list_any-map, list_any-filter}
 use Rattle.view.specs.Kept.{HaveRowsOf}
 use Rattle.view.specs.Shown.{is_live, live_elements}
@@ -36,7 +37,7 @@ use Rattle.effects.specs.declared.lookup.Lookup.{Lookup}
 use Rattle.effects.specs.Concerning.{HasNamers, HaveLinked, IsWithin, LeavesOthers}
 use Rattle.effects.specs.Deleting.{has_gone_names}
 use Rattle.effects.specs.Effects.{with_group, without_group}
-use Rattle.effects.specs.Linking.{listed, unlisted, with_end, with_end_of, with_container_of, with_text_of, with_text_alone, with_listing_entry, without_listing_entry}
+use Rattle.effects.specs.Linking.{listed, unlisted, with_end, with_end_of, with_container_of, with_text_of, with_text_alone, without_listing_entry}
 use Rattle.effects.specs.Lookups.{IsLookup}
 use Rattle.effects.specs.Naming.{is_among, is_some_that}
 use Rattle.effects.specs.Prepared.{made_by, settled_in}
@@ -111,7 +112,7 @@ module _ (stored : List ElementValue) (ids : Ids) where
       (and_left (bytes_eq link.arrow e.id) (is_arrow e.kind) (flip e.id link.arrow second.1)) in
       ap (λ (d : ElementValue). unlisted link.old link.entry (listed (target_of link.binding) link.entry d)) ended
       ∙ ap (unlisted link.old link.entry)
-      (cond-false (is_id e.id (target_of link.binding)) (record e { bound = with_listing_entry link.entry e.bound })
+      (cond-false (is_id e.id (target_of link.binding)) (record e { bound = with_listing_entry e.bound link.entry })
       e second.0)
       ∙ cond-false (is_id e.id link.old) (record e { bound = without_listing_entry link.entry e.bound }) e first.0
 

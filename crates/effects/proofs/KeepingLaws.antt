@@ -8,6 +8,7 @@ use Rattle.elem.specs.declared.parts.Binding.{Binding}
 use Rattle.elem.specs.ElementValue.{ElementValue}
 use Rattle.links.specs.Entries.{arrow_entry, text_entry}
 use Rattle.links.specs.Names.{is_id, is_arrow, is_text, target_of}
+use Rattle.links.specs.Tables.{with_listing_entry}
 use Rattle.board_commands.specs.declared.command.Command.{Command}
 use Rattle.board_commands.specs.declared.command.Command.TheVariants as commands
 use Rattle.board_commands.specs.declared.command.Side.{Side}
@@ -16,7 +17,7 @@ use Rattle.effects.specs.declared.effect.Effect.{Effect}
 use Rattle.effects.specs.declared.effect.Effect.TheVariants as effects
 use Rattle.effects.specs.Deleting.{without_names}
 use Rattle.effects.specs.Effects.{effect, with_group, without_group}
-use Rattle.effects.specs.Linking.{listed, unlisted, with_listing_entry, without_listing_entry, with_end, with_end_of, with_container_of, with_text_of, with_text_alone, without_container_of, bound_to, old_target, old_container}
+use Rattle.effects.specs.Linking.{listed, unlisted, without_listing_entry, with_end, with_end_of, with_container_of, with_text_of, with_text_alone, without_container_of, bound_to, old_target, old_container}
 use Rattle.effects.specs.Naming.{is_among, apart_from}
 use Rattle.effects.specs.Placing.{with_view_key, key_at, key_in}
 use Rattle.effects.specs.Prepared.{made_by, settled_in}
@@ -44,7 +45,7 @@ with_end-keeps End binding e = refl
 
 pub listed-keeps : (id : Option (List ℕ)) (entry : BoundRef) (e : ElementValue)
     → self_of (listed id entry e) ≡ self_of e
-listed-keeps id entry e = one_of (is_id e.id id) e (record e { bound = with_listing_entry entry e.bound }) e refl refl
+listed-keeps id entry e = one_of (is_id e.id id) e (record e { bound = with_listing_entry e.bound entry }) e refl refl
 
 unlisted-keeps : (id : Option (List ℕ)) (entry : BoundRef) (e : ElementValue)
     → self_of (unlisted id entry e) ≡ self_of e

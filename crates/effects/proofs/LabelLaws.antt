@@ -16,6 +16,7 @@ use Rattle.elem_store.specs.Updates.{element_of, ids_of}
 use Rattle.elem_store.proofs.CallerLemmas.{Contains-head, Contains-cons}
 use Rattle.links.specs.Entries.{text_entry, lists}
 use Rattle.links.specs.Names.{is_id, is_text, can_hold_text}
+use Rattle.links.specs.Tables.{with_listing_entry}
 use Rattle.links.specs.Texts.{is_for_text}
 use Rattle.view.specs.Shown.{is_live}
 use Rattle.board_commands.specs.declared.command.Command.{Command}
@@ -23,7 +24,7 @@ use Rattle.board_commands.specs.declared.command.Command.TheVariants as commands
 use Rattle.effects.specs.Changed.{outcome}
 use Rattle.effects.specs.Given.{stored_after, Stays}
 use Rattle.effects.specs.Keeping.{unlabelled_rest, arrow_entries, LabelKeeps, UnlabelKeeps}
-use Rattle.effects.specs.Linking.{unlisted, with_listing_entry, without_listing_entry, old_container, with_container_of, without_other_texts, with_text_alone, with_text_of, labelled, without_container_of, unlabelled}
+use Rattle.effects.specs.Linking.{unlisted, without_listing_entry, old_container, with_container_of, without_other_texts, with_text_alone, with_text_of, labelled, without_container_of, unlabelled}
 use Rattle.effects.specs.Naming.{apart_from}
 use Rattle.effects.specs.Refusals.{is_kind_of, unless_right}
 use Rattle.effects.proofs.CommandLaws.{right-kind, lists-added, apart}
@@ -68,7 +69,7 @@ alone text other (entry ∷ entries) apart = elim (cases_Bool (not (is_for_text 
 ]
 
 lists-more : (entry : BoundRef) (entries : List BoundRef) (other : BoundRef) → same_listing_entry other entry ≡ false
-    → lists entries other ≡ false → lists (with_listing_entry entry entries) other ≡ false
+    → lists entries other ≡ false → lists (with_listing_entry entries entry) other ≡ false
 lists-more entry entries other differ none = elim (cases_Bool (lists entries entry)) [
   | inl t ↦ ap (λ es. lists es other) (cond-true (lists entries entry) entries (entries ++ entry ∷ []) t) ∙ none
   | inr f ↦ ap (λ es. lists es other) (cond-false (lists entries entry) entries (entries ++ entry ∷ []) f)

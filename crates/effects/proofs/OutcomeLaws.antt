@@ -9,13 +9,14 @@ use Rattle.frac_keys.specs.Keys.{bytes_less}
 use Rattle.frac_keys.specs.Rising.{ends_rise, rise_between, are_rising}
 use Rattle.elem.specs.ElementValue.{ElementValue}
 use Rattle.elem.specs.Order.{beats, unstamped, has_id, HaveDistinctIds}
+use Rattle.elem.specs.Stamp.{stamped}
 use Rattle.elem_store.specs.Updates.{element_of, ids_of, is_newer, is_taken}
 use Rattle.elem_store.proofs.CallerLemmas.{same_id, Contains-head, Contains-cons, Contains-cases, find-Some, find-None, member}
 use Rattle.delta.specs.Pairs.{pair_with, IsChanged}
 use Rattle.view.specs.Shown.{is_live}
 use Rattle.board_commands.specs.declared.command.Command.{Command}
 use Rattle.effects.specs.declared.refusal.Refusal.{Refusal}
-use Rattle.effects.specs.Changed.{stamped, is_changed, is_full, change_of, changes_of, created, with_created, outcome, outcome_from, outcome_unless, refusal_at}
+use Rattle.effects.specs.Changed.{is_changed, is_full, change_of, changes_of, created, with_created, outcome, outcome_from, outcome_unless, refusal_at}
 use Rattle.effects.specs.Differing.{differs}
 use Rattle.effects.specs.Effects.{effect}
 use Rattle.effects.specs.Given.{stored_after, ChangesStored, IsNew}

@@ -8,10 +8,11 @@ use Rattle.std.proofs.lemmas.Option.{same_Some}
 use Rattle.elem.specs.ElementValue.{ElementValue}
 use Rattle.elem.specs.Facts.{greatest_whole}
 use Rattle.elem.specs.Order.{unstamped}
+use Rattle.elem.specs.Stamp.{stamped}
 use Rattle.view.specs.Shown.{is_live}
 use Rattle.effects.specs.declared.refusal.Refusal.{Refusal}
 use Rattle.effects.specs.declared.effect.Effect.{Effect}
-use Rattle.effects.specs.Changed.{OnFault, stamped, is_full, change_of, refusal_at}
+use Rattle.effects.specs.Changed.{OnFault, is_full, change_of, refusal_at}
 use Rattle.effects.specs.Concerning.{is_full_at}
 use Rattle.effects.specs.declared.refusal.Refusal.TheVariants.{VersionFull}
 use Rattle.elem_store.specs.Updates.{element_of}

@@ -1,10 +1,11 @@
 -- The changed elements of a command, or its refusal. This project's own.
-use Rattle.std.specs.Prelude.{ℕ, ◌+◌, ◌==◌, List, [], ◌∷◌, Bool, ◌&&◌, Option, Some, None, is_some, Result, Ok, Err, find, filter_map, if◌then◌else◌}
+use Rattle.std.specs.Prelude.{ℕ, ◌==◌, List, [], ◌∷◌, Bool, ◌&&◌, Option, Some, None, is_some, Result, Ok, Err, find, filter_map, if◌then◌else◌}
 use Rattle.board_base.specs.declared.stop.Stop.{Stop}
 use Rattle.board_base.specs.declared.stop.Stop.TheVariants.{Fault, Memory}
 use Rattle.frac_keys.specs.Keys.{bytes_less}
 use Rattle.elem.specs.ElementValue.{ElementValue}
 use Rattle.elem.specs.Facts.{greatest_whole}
+use Rattle.elem.specs.Stamp.{stamped}
 use Rattle.elem_store.specs.Updates.{element_of}
 use Rattle.view.specs.Shown.{is_live, with_element}
 use Rattle.board_commands.specs.declared.command.Command.{Command}
@@ -17,10 +18,6 @@ use Rattle.effects.specs.Differing.{differs}
 use Rattle.effects.specs.Effects.{effect}
 use Rattle.effects.specs.Placing.{key_at}
 use Rattle.effects.specs.Refusals.{refusal_of}
-
--- the element with the stamp of a change: the next version, the nonce and the time
-abbrev pub stamped : ℕ → ℕ → ElementValue → ElementValue
-stamped time nonce e = record e { version = e.version + 1; nonce = nonce; updated = time }
 
 -- whether a function changes a live element outside the stamp
 abbrev pub is_changed : (ElementValue → ElementValue) → ElementValue → Bool

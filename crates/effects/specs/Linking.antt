@@ -1,30 +1,28 @@
 -- Ends of arrows that are bound, and texts that get a container: the listings of what is named
 -- change with the names. This project's own, after Excalidraw's bindings and bound texts.
-use Rattle.std.specs.Prelude.{ℕ, List, [], ◌∷◌, ◌++◌, not, ◌&&◌, ◌||◌, Option, Some, None, filter, bytes_eq, if◌then◌else◌}
+use Rattle.std.specs.Prelude.{ℕ, List, not, ◌&&◌, ◌||◌, Option, Some, None, filter, bytes_eq, if◌then◌else◌}
 use Rattle.std.specs.Option.{option_and_then}
 use Rattle.elem.specs.declared.parts.BoundRef.{BoundRef}
 use Rattle.elem.specs.declared.parts.Binding.{Binding}
 use Rattle.elem.specs.ElementValue.{ElementValue}
 use Rattle.elem_store.specs.Updates.{element_of}
 use Rattle.elem.specs.Listings.{same_listing_entry}
-use Rattle.links.specs.Entries.{arrow_entry, text_entry, lists}
+use Rattle.links.specs.Entries.{arrow_entry, text_entry}
 use Rattle.links.specs.Names.{is_id, is_arrow, is_text, target_of}
+use Rattle.links.specs.Tables.{with_listing_entry}
 use Rattle.links.specs.Texts.{is_for_text}
 use Rattle.board_commands.specs.declared.command.Side.{Side}
 use Rattle.board_commands.specs.declared.command.Side.TheVariants.{Start, End}
 use Rattle.effects.specs.Naming.{apart_from}
 
--- a listing with an entry, which is added where it is missing, and one without it
-abbrev pub with_listing_entry : BoundRef → List BoundRef → List BoundRef
-with_listing_entry entry entries = if lists entries entry then entries else entries ++ entry ∷ []
-
+-- a listing without an entry
 abbrev pub without_listing_entry : BoundRef → List BoundRef → List BoundRef
 without_listing_entry entry entries = filter (λ other. not (same_listing_entry entry other)) entries
 
 -- the element, which lists the entry if it is of this id
 abbrev pub listed : Option (List ℕ) → BoundRef → ElementValue → ElementValue
 listed id entry e =
-    if is_id e.id id then record e { bound = with_listing_entry entry e.bound } else e
+    if is_id e.id id then record e { bound = with_listing_entry e.bound entry } else e
 
 -- the element, which doesn't list the entry if it is of this id
 abbrev pub unlisted : Option (List ℕ) → BoundRef → ElementValue → ElementValue
@@ -81,7 +79,7 @@ without_other_texts text entries =
 
 abbrev pub with_text_alone : List ℕ → List BoundRef → List BoundRef
 with_text_alone text entries =
-    with_listing_entry (text_entry text) (without_other_texts text entries)
+    with_listing_entry (without_other_texts text entries) (text_entry text)
 
 -- the element, which lists the text and no other one if it is the container
 abbrev pub with_text_of : List ℕ → List ℕ → ElementValue → ElementValue

@@ -1,11 +1,10 @@
 //! The changed elements of a command.
 
-ghost use Rattle.std.specs.Prelude.{◌≡◌, ◌≤◌, [], ◌∷◌, None, true, Contains, IfErr, IfOk};
+ghost use Rattle.std.specs.Prelude.{◌≡◌, [], ◌∷◌, None, true, Contains, IfErr, IfOk};
 ghost use Rattle.std.specs.Cmp.Lexicographic.{slice_cmp};
 ghost use Rattle.std.specs.Ordering.{nat_cmp};
 ghost use Rattle.frac_keys.specs.Rising.{are_rising};
 ghost use Rattle.elem.specs.ElementValue.{ElementValue};
-ghost use Rattle.elem.specs.Facts.{greatest_whole};
 ghost use Rattle.elem.specs.Order.{HaveDistinctIds};
 ghost use Rattle.elem_store.specs.Updates.{element_of, ids_of};
 ghost use Rattle.board_commands.specs.Limits.{IsWithinLimits};
@@ -23,7 +22,7 @@ use crate::refusing::check;
 use crate::walking::changes_of;
 use board_base::{List, Stop};
 use board_commands::{Command, Spot};
-use elem::Element;
+use elem::{Element, Stamp};
 use std::alloc::{AllocError, Global};
 use std::cmp::Ordering;
 
@@ -36,25 +35,22 @@ pub fn changed(
     alloc: Global,
     lookup: &Lookup<'_>,
     command: &Command,
-    time: u64,
-    nonce: u64,
+    stamp: Stamp,
 ) -> Result<List<Element>, Stop<Refusal>>
-    requires time { time ≤ greatest_whole }
-    requires nonce { nonce ≤ greatest_whole }
     requires limits { IsWithinLimits command.now }
     requires lookup { IsLookup lookup.now }
     ensures exact { IfOk result (λ changed.
-        outcome lookup.now.store.now.elements lookup.now.shown.now command.now time nonce
-        ≡ Ok changed) }
+        outcome lookup.now.store.now.elements lookup.now.shown.now command.now
+        stamp.time stamp.nonce ≡ Ok changed) }
     ensures refused { IfErr result (λ stop. OnFault stop (λ refusal.
-        outcome lookup.now.store.now.elements lookup.now.shown.now command.now time nonce
-        ≡ Err refusal)) }
+        outcome lookup.now.store.now.elements lookup.now.shown.now command.now
+        stamp.time stamp.nonce ≡ Err refusal)) }
 {
     check(alloc, lookup, command)?;
     let effect = prepared(alloc, lookup, command)?;
     let ids = concerned(alloc, lookup, &effect)?;
-    let changed = changes_of(alloc, lookup.store, &effect, &ids, time, nonce)?;
-    let new = created(alloc, lookup, command, time, nonce)?;
+    let changed = changes_of(alloc, lookup.store, &effect, &ids, stamp)?;
+    let new = created(alloc, lookup, command, stamp)?;
     let all = with_created(changed, new)?;
     Ok(List::from_vec(all))
 }
@@ -64,26 +60,23 @@ fn created(
     alloc: Global,
     lookup: &Lookup<'_>,
     command: &Command,
-    time: u64,
-    nonce: u64,
+    stamp: Stamp,
 ) -> Result<List<Element>, AllocError>
-    requires time { time ≤ greatest_whole }
-    requires nonce { nonce ≤ greatest_whole }
     requires lookup { IsLookup lookup.now }
-    ensures { IfOk result (λ new. new ≡ changes.created lookup.now.shown.now command.now time
-        nonce) }
+    ensures { IfOk result (λ new. new ≡ changes.created lookup.now.shown.now command.now
+        stamp.time stamp.nonce) }
 {
     match command {
-        Command::Create { element, spot } => created_at(alloc, lookup, element, spot, time, nonce),
+        Command::Create { element, spot } => created_at(alloc, lookup, element, spot, stamp),
         Command::Duplicate { ids, prefix, spot } => {
             let originals = shown_among(alloc, ids, lookup.shown)?;
-            copies_at(alloc, lookup, &originals, prefix, spot, time, nonce)
+            copies_at(alloc, lookup, &originals, prefix, spot, stamp)
         }
         Command::Paste {
             elements,
             prefix,
             spot,
-        } => copies_at(alloc, lookup, elements, prefix, spot, time, nonce),
+        } => copies_at(alloc, lookup, elements, prefix, spot, stamp),
         _ => Ok(List::new(alloc)),
     }
 }
@@ -94,17 +87,15 @@ fn created_at(
     lookup: &Lookup<'_>,
     e: &Element,
     spot: &Spot,
-    time: u64,
-    nonce: u64,
+    stamp: Stamp,
 ) -> Result<List<Element>, AllocError>
-    requires time { time ≤ greatest_whole }
-    requires nonce { nonce ≤ greatest_whole }
     requires lookup { IsLookup lookup.now }
     ensures { IfOk result
-        (λ new. new ≡ changes.created_at lookup.now.shown.now e.now spot.now time nonce ∷ []) }
+        (λ new. new ≡ changes.created_at lookup.now.shown.now e.now spot.now stamp.time stamp.nonce
+        ∷ []) }
 {
     let key = key_at(alloc, lookup, spot, None, &None)?;
-    let new = with_index(as_new(e.try_clone()?, time, nonce), key);
+    let new = with_index(as_new(e.try_clone()?, stamp), key);
     let mut list = Vec::new(alloc);
     list.push(new)?;
     Ok(List::from_vec(list))

@@ -1,10 +1,9 @@
 //! The copies that a command makes.
 
-ghost use Rattle.std.specs.Prelude.{◌≡◌, ◌≤◌, map, IfOk};
+ghost use Rattle.std.specs.Prelude.{◌≡◌, map, IfOk};
 ghost use Rattle.std.specs.BTreeSet.{contains};
 ghost use Rattle.std.specs.Cmp.Lexicographic.{slice_cmp};
 ghost use Rattle.std.specs.Ordering.{nat_cmp};
-ghost use Rattle.elem.specs.Facts.{greatest_whole};
 ghost use Rattle.effects.specs.Copying as copying;
 ghost use Rattle.effects.specs.Lookups.{IsLookup};
 
@@ -14,7 +13,7 @@ use crate::preparing::set_of;
 use board_base::List;
 use board_commands::Spot;
 use copies::{copies, keyed_between};
-use elem::{Element, SharedElement};
+use elem::{Element, SharedElement, Stamp};
 use json_text::Text;
 use std::alloc::{AllocError, Global};
 use std::collections::BTreeSet;
@@ -51,49 +50,41 @@ pub(crate) fn copies_at(
     originals: &List<Element>,
     prefix: &Text,
     spot: &Spot,
-    time: u64,
-    nonce: u64,
+    stamp: Stamp,
 ) -> Result<List<Element>, AllocError>
-    requires time { time ≤ greatest_whole }
-    requires nonce { nonce ≤ greatest_whole }
     requires lookup { IsLookup lookup.now }
     ensures { IfOk result
-        (λ new. new ≡ copying.copies_at lookup.now.shown.now originals.now prefix.now spot.now time
-        nonce) }
+        (λ new. new ≡ copying.copies_at lookup.now.shown.now originals.now prefix.now spot.now
+        stamp.time stamp.nonce) }
 {
     let gap = gap_at(lookup, spot, None);
     let copies = copies(alloc, originals.as_slice(), prefix)?;
     let copies = keyed_between(alloc, copies, gap.low, gap.high)?;
-    all_as_new(alloc, copies, time, nonce)
+    all_as_new(alloc, copies, stamp)
 }
 
 /// The elements as new ones.
 fn all_as_new(
     alloc: Global,
     elements: List<Element>,
-    time: u64,
-    nonce: u64,
+    stamp: Stamp,
 ) -> Result<List<Element>, AllocError>
-    requires time { time ≤ greatest_whole }
-    requires nonce { nonce ≤ greatest_whole }
-    ensures { IfOk result (λ new. new ≡ map (copying.as_new time nonce) elements) }
+    ensures { IfOk result (λ new. new ≡ map (copying.as_new stamp.time stamp.nonce) elements) }
 {
     let mut new = Vec::with_capacity(alloc, elements.as_slice().len())?;
     for e in elements.into_vec() {
-        new.push(as_new(e, time, nonce))?;
+        new.push(as_new(e, stamp))?;
     }
     Ok(List::from_vec(new))
 }
 
 /// The element as a new one: live and at the first version, with the stamp of a change.
-pub(crate) fn as_new(mut e: Element, time: u64, nonce: u64) -> Element
-    requires time { time ≤ greatest_whole }
-    requires nonce { nonce ≤ greatest_whole }
-    ensures { result ≡ copying.as_new time nonce e }
+pub(crate) fn as_new(mut e: Element, stamp: Stamp) -> Element
+    ensures { result ≡ copying.as_new stamp.time stamp.nonce e }
 {
     e.version = 1;
-    e.nonce = nonce;
-    e.updated = time;
+    e.nonce = stamp.nonce;
+    e.updated = stamp.time;
     e.deleted = false;
     e
 }

@@ -7,9 +7,10 @@ ghost use Rattle.elem.specs.Facts.{IsBinding};
 ghost use Rattle.elem.specs.Listings as listings;
 ghost use Rattle.links.specs.Entries as entries;
 ghost use Rattle.links.specs.Names.{is_id, target_of};
+ghost use Rattle.links.specs.Tables.{with_listing_entry};
 ghost use Rattle.links.specs.Texts.{is_for_text};
 ghost use Rattle.effects.specs.Linking as linking;
-ghost use Rattle.effects.specs.Linking.{with_end, with_listing_entry, without_listing_entry};
+ghost use Rattle.effects.specs.Linking.{with_end, without_listing_entry};
 ghost use Rattle.effects.specs.Prepared.{linked, put_in, taken_out};
 
 use crate::kinds::{is_arrow, is_text};
@@ -185,7 +186,7 @@ fn with_listing_entry(
     bound: &List<BoundRef>,
     entry: &BoundRef,
 ) -> Result<List<BoundRef>, AllocError>
-    ensures { IfOk result (λ new. new ≡ with_listing_entry entry.now bound.now) }
+    ensures { IfOk result (λ new. new ≡ with_listing_entry bound.now entry.now) }
 {
     let mut new = bound.try_clone_with(BoundRef::try_clone)?;
     if !lists(bound, entry) {

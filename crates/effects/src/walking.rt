@@ -1,9 +1,10 @@
 //! The stored elements that an effect concerns, of which each live one may change.
 
-ghost use Rattle.std.specs.Prelude.{◌≡◌, ◌≢◌, ◌≤◌, ◌++◌, [], Some, None, true, false, find, if◌then◌else◌, IfErr, IfOk, OnOk};
+ghost use Rattle.std.specs.Prelude.{◌≡◌, ◌≢◌, ◌++◌, [], Some, None, true, false, find, if◌then◌else◌, IfErr, IfOk, OnOk};
 ghost use Rattle.std.specs.List.{cons_option};
 ghost use Rattle.std.specs.Option.{option_map};
 ghost use Rattle.elem.specs.Facts.{greatest_whole};
+ghost use Rattle.elem.specs.Stamp.{stamped};
 ghost use Rattle.effects.specs.Changed as changes;
 ghost use Rattle.effects.specs.Changed.{OnFault, is_full, refusal_at};
 ghost use Rattle.effects.specs.Concerning as concerning;
@@ -18,8 +19,8 @@ use crate::effect::Effect;
 use crate::kinds::is_live;
 use crate::refusal::Refusal;
 use board_base::Stop;
-use delta::{AtLimit, stamp};
-use elem::{Element, same_but_stamp};
+use delta::AtLimit;
+use elem::{Element, Stamp, same_but_stamp};
 use elem_store::Store;
 use json_text::Text;
 use std::alloc::{AllocError, Global};
@@ -32,17 +33,14 @@ pub(crate) fn changes_of(
     store: &Store,
     effect: &Effect,
     ids: &BTreeSet<Text>,
-    time: u64,
-    nonce: u64,
+    stamp: Stamp,
 ) -> Result<Vec<Element>, Stop<Refusal>>
-    requires time { time ≤ greatest_whole }
-    requires nonce { nonce ≤ greatest_whole }
     requires sound { IsSoundEffect effect.now }
     requires ordered { are_rising (ids_of store.now.elements) ≡ true }
     requires others { LeavesOthers (made_by effect.now) store.now.elements ids.now }
     ensures changed { IfOk result
         (λ changed. changed.items ≡ changes.changes_of
-        (made_by effect.now) time nonce store.now.elements) }
+        (made_by effect.now) stamp.time stamp.nonce store.now.elements) }
     ensures none_full { IfOk result
         (λ _. find (is_full (made_by effect.now)) store.now.elements ≡ None) }
     ensures full { IfErr result
@@ -52,7 +50,7 @@ pub(crate) fn changes_of(
 {
     let mut changed = Vec::new(alloc);
     for id in ids {
-        let new = change_at(alloc, store, effect, id, time, nonce)?;
+        let new = change_at(alloc, store, effect, id, stamp)?;
         note(&mut changed, new)?;
     }
     Ok(changed)
@@ -64,15 +62,12 @@ fn change_at(
     store: &Store,
     effect: &Effect,
     id: &Text,
-    time: u64,
-    nonce: u64,
+    stamp: Stamp,
 ) -> Result<Option<Element>, Stop<Refusal>>
-    requires time { time ≤ greatest_whole }
-    requires nonce { nonce ≤ greatest_whole }
     requires sound { IsSoundEffect effect.now }
     ensures changed { IfOk result
-        (λ new. new ≡ concerning.change_at store.now.elements (made_by effect.now) time nonce
-        id.now) }
+        (λ new. new ≡ concerning.change_at store.now.elements (made_by effect.now)
+        stamp.time stamp.nonce id.now) }
     ensures free { IfOk result (λ _. is_full_at store.now.elements (made_by effect.now) id.now
         ≡ false) }
     ensures full { IfErr result
@@ -81,7 +76,7 @@ fn change_at(
         × (refusal ≡ refusals.VersionFull id.now))) }
 {
     match store.get(id) {
-        Some(e) => change_of(alloc, effect, e, time, nonce),
+        Some(e) => change_of(alloc, effect, e, stamp),
         None => Ok(None),
     }
 }
@@ -101,14 +96,11 @@ fn change_of(
     alloc: Global,
     effect: &Effect,
     e: &Element,
-    time: u64,
-    nonce: u64,
+    stamp: Stamp,
 ) -> Result<Option<Element>, Stop<Refusal>>
-    requires time { time ≤ greatest_whole }
-    requires nonce { nonce ≤ greatest_whole }
     requires sound { IsSoundEffect effect.now }
     ensures changed { IfOk result
-        (λ new. new ≡ changes.change_of (made_by effect.now) time nonce e.now) }
+        (λ new. new ≡ changes.change_of (made_by effect.now) stamp.time stamp.nonce e.now) }
     ensures free { IfOk result (λ _. is_full (made_by effect.now) e.now ≡ false) }
     ensures full { IfErr result
         (λ stop. OnFault stop (λ refusal. (is_full (made_by effect.now) e.now ≡ true)
@@ -120,7 +112,7 @@ fn change_of(
     let Some(new) = changed(alloc, effect, e)? else {
         return Ok(None);
     };
-    Ok(Some(stamped(new, time, nonce)?))
+    Ok(Some(stamped(new, stamp)?))
 }
 
 /// What an effect makes of an element, if that changes.
@@ -140,15 +132,13 @@ fn changed(alloc: Global, effect: &Effect, e: &Element) -> Result<Option<Element
 }
 
 /// The element with the stamp of a change.
-fn stamped(mut e: Element, time: u64, nonce: u64) -> Result<Element, Stop<Refusal>>
-    requires time { time ≤ greatest_whole }
-    requires nonce { nonce ≤ greatest_whole }
-    ensures stamped { IfOk result (λ new. new ≡ changes.stamped time nonce e) }
+fn stamped(mut e: Element, stamp: Stamp) -> Result<Element, Stop<Refusal>>
+    ensures stamped { IfOk result (λ new. new ≡ stamped stamp.time stamp.nonce e) }
     ensures free { IfOk result (λ _. e.version ≢ greatest_whole) }
     ensures full { IfErr result (λ stop. OnFault stop (λ refusal. (e.version ≡ greatest_whole)
         × (refusal ≡ refusal_at e))) }
 {
-    match stamp(&mut e, time, nonce) {
+    match delta::stamp(&mut e, stamp) {
         Ok(()) => Ok(e),
         Err(AtLimit) => Err(full_at(&e)),
     }

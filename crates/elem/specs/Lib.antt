@@ -6,4 +6,5 @@ pub mod Listings
 pub mod Order
 pub mod Printing
 pub mod Said
+pub mod Stamp
 pub mod Texts

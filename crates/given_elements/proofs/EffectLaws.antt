@@ -22,6 +22,7 @@ use Rattle.delta.proofs.CallerLemmas.{each-with_value}
 use Rattle.elem.specs.Listings.{same_listing_entry}
 use Rattle.links.specs.Entries.{arrow_entry, text_entry, lists}
 use Rattle.links.specs.Names.{is_id, is_arrow, is_text, target_of}
+use Rattle.links.specs.Tables.{with_listing_entry}
 use Rattle.links.specs.Texts.{is_for_text}
 use Rattle.index_repair.specs.Keyed.{HaveRisingKeys}
 use Rattle.elem.proofs.CallerLemmas.{IsKept, AreKept, HasText, IsEnd, with_parts, with_deleted, with_index, with_groups, with_frame, with_bound, with_container, with_start, with_end'}
@@ -34,7 +35,7 @@ use Rattle.effects.specs.Copying.{settled_for, shown_among}
 use Rattle.effects.specs.Deleting.{kept_name, kept_entries, kept_end, without_names, deleted_from}
 use Rattle.effects.specs.Effects.{effect, with_group, without_group}
 use Rattle.board_commands.specs.Limits.{IsRest, IsWithinLimits}
-use Rattle.effects.specs.Linking.{with_listing_entry, without_listing_entry, listed, unlisted, with_end, with_end_of, old_target, old_container, with_container_of, without_other_texts, with_text_alone, with_text_of, without_container_of}
+use Rattle.effects.specs.Linking.{without_listing_entry, listed, unlisted, with_end, with_end_of, old_target, old_container, with_container_of, without_other_texts, with_text_alone, with_text_of, without_container_of}
 use Rattle.effects.specs.Naming.{is_among, is_some_that, apart_from}
 use Rattle.effects.specs.Placing.{with_view_key, settled_key, key_at, key_in}
 use Rattle.effects.specs.Refusals.{refusal_if, guarded}
@@ -120,7 +121,7 @@ deleted_from-kept is_gone e kept =
 
 -- ---- listings
 with_listing_entry-text : (entry : BoundRef) (entries : List BoundRef) → IsUtf8 entry.id
-    → AllByRecursion HasText entries → AllByRecursion HasText (with_listing_entry entry entries)
+    → AllByRecursion HasText entries → AllByRecursion HasText (with_listing_entry entries entry)
 with_listing_entry-text entry entries text all =
     elim (lists entries entry) as (λ (b : Bool). AllByRecursion HasText (if b then entries else entries ++ entry
     ∷ [])) [
@@ -131,8 +132,8 @@ with_listing_entry-text entry entries text all =
 listed-kept : (id : Option (List ℕ)) (entry : BoundRef) (e : ElementValue) → IsUtf8 entry.id → IsKept e
     → IsKept (listed id entry e)
 listed-kept id entry e text kept =
-    chosen (is_id e.id id) (record e { bound = with_listing_entry entry e.bound }) e
-    (λ _. with_bound e kept (with_listing_entry entry e.bound)
+    chosen (is_id e.id id) (record e { bound = with_listing_entry e.bound entry }) e
+    (λ _. with_bound e kept (with_listing_entry e.bound entry)
     (with_listing_entry-text entry e.bound text kept.written.bound)) kept
 
 unlisted-kept : (id : Option (List ℕ)) (entry : BoundRef) (e : ElementValue) → IsKept e

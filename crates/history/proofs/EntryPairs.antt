@@ -12,6 +12,7 @@ use Rattle.elem.specs.ElementValue.{ElementValue}
 use Rattle.elem.specs.Facts.{IsElement, greatest_whole}
 use Rattle.elem.specs.Order.{unstamped, has_id}
 use Rattle.elem.specs.Said.{HasValidTexts, AreElements}
+use Rattle.elem.specs.Stamp.{stamped}
 use Rattle.elem_store.specs.Updates.{element_of}
 use Rattle.elem_store.proofs.CallerLemmas.{Contains-head, Contains-cons, Contains-cases, find-Some, find-None}
 use Rattle.delta.specs.Delta.{Delta}
@@ -19,7 +20,7 @@ use Rattle.delta.specs.Pairs.{Pair, exchanged}
 use Rattle.delta.specs.Parts.{inverses}
 use Rattle.delta.proofs.CallerLemmas.{entry-exchanged, same_members, later_greater}
 use Rattle.undoing.specs.Differing.{differ}
-use Rattle.undoing.specs.Steps.{Reverted, is_visible, is_full, is_seen, reverted, stamped, given, full_id}
+use Rattle.undoing.specs.Steps.{Reverted, is_visible, is_full, is_seen, reverted, given, full_id}
 use Rattle.undoing.specs.Undoing.{undone}
 use Rattle.undoing.proofs.CallerLemmas.{rise-lower}
 use Rattle.undoing.proofs.CallerLemmas as turns

@@ -5,6 +5,7 @@ use Rattle.std.proofs.lemmas.List.{map-append}
 use Rattle.std.proofs.lemmas.List.Elements.{Contains-append_right, Contains-push_cases}
 use mathlib.Core.List.{reverse_aux-eq}
 use Rattle.elem_store.proofs.CallerLemmas.{Contains-cases}
+use Rattle.elem.specs.declared.stamp.Stamp.{Stamp}
 use Rattle.elem.specs.ElementValue.{ElementValue}
 use Rattle.delta.specs.Delta.{Delta}
 use Rattle.delta.specs.Parts.{inverses}
@@ -101,37 +102,37 @@ pub noted-none : (entry : List Delta) (stacks : Stacks) → entry ≡ [] → not
 noted-none entry stacks none = ap (λ e. noted e stacks) none
 
 -- ---- plans
-module _ (store : List ElementValue) (time nonce : ℕ) where
+module _ (store : List ElementValue) (stamp : Stamp) where
   -- a planned step is one, from the stacks as they are to those that put leaves
-  stepped-from : (from to : List (List Delta)) (given : List ElementValue) (made : List Delta) (passed : ℕ)
-      → IsPlanned store time nonce from given made passed
-      → HasStepped store time nonce given from to (below_last (passed + 1) from) (grown_by passed made from to)
-  stepped-from from to given made passed plan = record {
-    parts = plan.parts;
-    above = plan.above;
-    made = made;
+  stepped-from : (from to : List (List Delta)) (plan : Plan) → IsPlanned store stamp from plan
+      → HasStepped store stamp.time stamp.nonce plan.given from to (below_last (plan.passed + 1) from)
+      (grown_by plan.passed plan.made from to)
+  stepped-from from to plan is = record {
+    parts = is.parts;
+    above = is.above;
+    made = plan.made;
     topmost = record {
-      split = plan.topmost.split ∙ ap (λ xs. xs ++ plan.parts ∷ plan.above)
-          (sym (seam-below from plan.below plan.parts plan.above passed plan.topmost.split plan.count));
-      seen = plan.topmost.seen;
-      unseen = plan.topmost.unseen;
+      split = is.topmost.split ∙ ap (λ xs. xs ++ is.parts ∷ is.above)
+          (sym (seam-below from is.below is.parts is.above plan.passed is.topmost.split is.count));
+      seen = is.topmost.seen;
+      unseen = is.topmost.unseen;
     };
-    pushed = ap (λ xs. to ++ (map inverses (reverse xs) ++ made ∷ []))
-        (seam-above from plan.below plan.parts plan.above passed plan.topmost.split plan.count);
-    step = plan.step;
+    pushed = ap (λ xs. to ++ (map inverses (reverse xs) ++ plan.made ∷ []))
+        (seam-above from is.below is.parts is.above plan.passed is.topmost.split is.count);
+    step = is.step;
   }
 
-  taken-back : (direction : Direction) (stacks : Stacks) (given : List ElementValue) (made : List Delta) (passed : ℕ)
-      → IsPlanned store time nonce (side direction stacks) given made passed
-      → HasTakenBack direction store time nonce given stacks (stepped direction passed (Some made) stacks)
-  taken-back Undo stacks given made passed plan = stepped-from stacks.undo stacks.redo given made passed plan
-  taken-back Redo stacks given made passed plan = stepped-from stacks.redo stacks.undo given made passed plan
+  taken-back : (direction : Direction) (stacks : Stacks) (plan : Plan)
+      → IsPlanned store stamp (side direction stacks) plan
+      → HasTakenBack direction store stamp plan.given stacks (stepped direction plan.passed (Some plan.made) stacks)
+  taken-back Undo stacks plan is = stepped-from stacks.undo stacks.redo plan is
+  taken-back Redo stacks plan is = stepped-from stacks.redo stacks.undo plan is
 
-  pub within-planned : (stack : List (List Delta)) (given : List ElementValue) (made : List Delta) (passed : ℕ)
-      → IsPlanned store time nonce stack given made passed → passed < length stack
-  within-planned stack given made passed plan =
-      let long = ap length plan.topmost.split ∙ length-append plan.below (plan.parts ∷ plan.above) in
-      omega (arith, long, plan.count)
+  within-planned : (stack : List (List Delta)) (plan : Plan) → IsPlanned store stamp stack plan
+      → plan.passed < length stack
+  within-planned stack plan is =
+      let long = ap length is.topmost.split ∙ length-append is.below (is.parts ∷ is.above) in
+      omega (arith, long, is.count)
 
   -- one more entry that isn't seen
   unseen-more : (entry : List Delta) (above : List (List Delta)) → ¬ (IsSeen store entry) → AreUnseen store above
@@ -154,33 +155,16 @@ module _ (store : List ElementValue) (time nonce : ℕ) where
     unseen = unseen-more entry above not top.unseen;
   }
 
-  topmost-own : (entry : List Delta) (stack : List (List Delta)) → IsSeen store entry
-      → IsTopmostSeen store (stack ++ entry ∷ []) stack entry []
-  topmost-own entry stack seen =
-      record { split = refl; seen = seen; unseen = λ parts among. absurd (omega (arith, among.1)) }
-
-  pub planned-over : (entry : List Delta) (stack : List (List Delta)) (given : List ElementValue) (made : List Delta)
-      (passed : ℕ) → ¬ (IsSeen store entry) → IsPlanned store time nonce stack given made passed
-      → IsPlanned store time nonce (stack ++ entry ∷ []) given made (passed + 1)
-  planned-over entry stack given made passed not plan = record {
-    below = plan.below;
-    parts = plan.parts;
-    above = plan.above ++ entry ∷ [];
-    topmost = topmost-over entry stack plan.below plan.parts plan.above not plan.topmost;
-    count = let long = length-append plan.above (entry ∷ []) in omega (arith, long, plan.count);
-    step = plan.step;
-  }
-
-  pub planned-own : (entry : List Delta) (stack : List (List Delta)) (given : List ElementValue) (made : List Delta)
-      → IsSeen store entry → IsStep entry store time nonce given made
-      → IsPlanned store time nonce (stack ++ entry ∷ []) given made 0
-  planned-own entry stack given made seen step = record {
-    below = stack;
-    parts = entry;
-    above = [];
-    topmost = topmost-own entry stack seen;
-    count = refl;
-    step = step;
+  pub planned-over : (entry : List Delta) (stack : List (List Delta)) (plan : Plan) → ¬ (IsSeen store entry)
+      → IsPlanned store stamp stack plan
+      → IsPlanned store stamp (stack ++ entry ∷ []) (record plan { passed = plan.passed + 1 })
+  planned-over entry stack plan not is = record {
+    below = is.below;
+    parts = is.parts;
+    above = is.above ++ entry ∷ [];
+    topmost = topmost-over entry stack is.below is.parts is.above not is.topmost;
+    count = let long = length-append is.above (entry ∷ []) in omega (arith, long, is.count);
+    step = is.step;
   }
 
   pub stops-over : (entry : List Delta) (stack : List (List Delta)) (id : List ℕ) → ¬ (IsSeen store entry)
@@ -191,16 +175,6 @@ module _ (store : List ElementValue) (time nonce : ℕ) where
     above = stops.above ++ entry ∷ [];
     topmost = topmost-over entry stack stops.below stops.parts stops.above not stops.topmost;
     full = stops.full;
-  }
-
-  pub stops-own : (entry : List Delta) (stack : List (List Delta)) (id : List ℕ) → IsSeen store entry
-      → IsLeastFull entry store id → StopsAt store (stack ++ entry ∷ []) id
-  stops-own entry stack id seen full = record {
-    below = stack;
-    parts = entry;
-    above = [];
-    topmost = topmost-own entry stack seen;
-    full = full;
   }
 
   -- the topmost one stands at an index
@@ -228,16 +202,18 @@ module _ (store : List ElementValue) (time nonce : ℕ) where
           some-same a b e = cc
       parted (y ∷ ys) (suc i) x at = ap (λ zs. y ∷ zs) (parted ys i x at)
 
-  pub planned-at : (stack : List (List Delta)) (i : ℕ) (given : List ElementValue) (made entry : List Delta)
-      (passed : ℕ) (is : IsSeenAt store stack i) → slice_get stack i ≡ Some entry → passed ≡ length (drop (i + 1) stack)
-      → IsStep entry store time nonce given made → IsPlanned store time nonce stack given made passed
-  planned-at stack i given made entry passed is at count step = record {
+  pub planned-at : (stack : List (List Delta)) (i : ℕ) (entry : List Delta) (plan : Plan)
+      (is : IsSeenAt store stack i) → slice_get stack i ≡ Some entry → plan.passed ≡ length (drop (i + 1) stack)
+      → IsStep entry store stamp.time stamp.nonce plan.given plan.made → IsPlanned store stamp stack plan
+  planned-at stack i entry plan is at count step = record {
     below = take i stack;
     parts = is.parts;
     above = drop (i + 1) stack;
     topmost = topmost-at stack i is;
     count = count;
-    step = subst (λ e. IsStep e store time nonce given made) (same entry is.parts (sym at ∙ is.at)) step;
+    step =
+        subst (λ e. IsStep e store stamp.time stamp.nonce plan.given plan.made) (same entry is.parts (sym at ∙ is.at))
+        step;
   }
     where
       same : {X : Type 0} (a b : X) → Some a ≡ Some b → a ≡ b
@@ -275,16 +251,14 @@ module _ (store : List ElementValue) (time nonce : ℕ) where
         steps.Done p.given,
       ))
       (unseen : plan ≡ None → AreUnseen store (side direction (noted pending stacks)))
-      (planned : IfSome plan (λ p. IsPlanned store time nonce (side direction (noted pending stacks)) p.given p.made
-      p.passed)) where
+      (planned : IfSome plan (IsPlanned store stamp (side direction (noted pending stacks)))) where
     pub nothing-planned : (r.1 ≡ steps.Nothing) ↔ AreUnseen store (side direction (noted pending stacks))
     nothing-planned =
         elim plan as (λ o. plan ≡ o → (r.1 ≡ steps.Nothing) ↔ AreUnseen store (side direction (noted pending stacks))) [
           | None ↦ λ is. (λ e. unseen is, λ u. ap (λ (x : HistoryStep × Step). x.1) (none is))
           | Some p ↦ λ is.
               let it =
-              subst (λ o. IfSome o (λ p. IsPlanned store time nonce (side direction (noted pending stacks)) p.given
-              p.made p.passed)) is planned in (
+              subst (λ o. IfSome o (IsPlanned store stamp (side direction (noted pending stacks)))) is planned in (
                 λ e. absurd (nothing-done p.given (sym e ∙ ap (λ (x : HistoryStep × Step). x.1) (some p is))),
                 λ u. absurd (u it.parts (subst (λ stack. Contains stack it.parts) (sym it.topmost.split)
                     (Contains-append_right it.below (it.parts ∷ it.above) it.parts (0, omega arith, refl)))
@@ -297,10 +271,9 @@ module _ (store : List ElementValue) (time nonce : ℕ) where
       | None ↦ λ is. subst (λ (x : HistoryStep × Step). FitsIn x.0 stacks) (sym (none is)) tt
       | Some p ↦ λ is.
           let it =
-          subst (λ o. IfSome o (λ p. IsPlanned store time nonce (side direction (noted pending stacks)) p.given
-          p.made p.passed)) is planned in
+          subst (λ o. IfSome o (IsPlanned store stamp (side direction (noted pending stacks)))) is planned in
           subst (λ (x : HistoryStep × Step). FitsIn x.0 stacks) (sym (some p is))
-          (within-planned (side direction (noted pending stacks)) p.given p.made p.passed it)
+          (within-planned (side direction (noted pending stacks)) p it)
     ] refl
 
     pub kept-planned : (step : HistoryStep) → r ≡ (step, steps.Nothing) → put_step step stacks ≡ noted pending stacks
@@ -310,16 +283,15 @@ module _ (store : List ElementValue) (time nonce : ℕ) where
     ] refl
 
     pub done-planned : (step : HistoryStep) (given : List ElementValue) → r ≡ (step, steps.Done given)
-        → HasTakenBack direction store time nonce given (noted pending stacks) (put_step step stacks)
+        → HasTakenBack direction store stamp given (noted pending stacks) (put_step step stacks)
     done-planned step given e = elim plan as (λ o. plan ≡ o
-        → HasTakenBack direction store time nonce given (noted pending stacks) (put_step step stacks)) [
+        → HasTakenBack direction store stamp given (noted pending stacks) (put_step step stacks)) [
           | None ↦ λ is. absurd (nothing-done given (ap (λ (x : HistoryStep × Step). x.1) (sym (none is) ∙ e)))
           | Some p ↦ λ is.
-              subst₂ (λ (s : HistoryStep) g. HasTakenBack direction store time nonce g (noted pending stacks)
+              subst₂ (λ (s : HistoryStep) g. HasTakenBack direction store stamp g (noted pending stacks)
               (put_step s stacks))
               (ap (λ (x : HistoryStep × Step). x.0) (sym (some p is) ∙ e))
               (done-same p.given given (ap (λ (x : HistoryStep × Step). x.1) (sym (some p is) ∙ e)))
-              (taken-back direction (noted pending stacks) p.given p.made p.passed
-              (subst (λ o. IfSome o (λ p. IsPlanned store time nonce (side direction (noted pending stacks)) p.given
-              p.made p.passed)) is planned))
+              (taken-back direction (noted pending stacks) p
+              (subst (λ o. IfSome o (IsPlanned store stamp (side direction (noted pending stacks)))) is planned))
         ] refl

@@ -10,6 +10,7 @@ use Rattle.frac_keys.specs.Keys.{bytes_less}
 use Rattle.frac_keys.specs.Rising.{are_rising}
 use Rattle.elem.specs.ElementValue.{ElementValue}
 use Rattle.elem.specs.Order.{unstamped, has_id}
+use Rattle.elem.specs.Stamp.{stamped}
 use Rattle.elem_store.specs.Updates.{HasTaken, element_of, is_taken}
 use Rattle.elem_store.proofs.CallerLemmas.{same_id, find-Some, Contains-cons, less-other, less-less}
 use Rattle.delta.specs.Applied.{KeepsStamp}
@@ -21,7 +22,7 @@ use Rattle.delta.specs.declared.stamping.VersionFull.{VersionFull}
 use Rattle.delta.proofs.CallerLemmas.{entry-more, entry-none, applied-apart, Contains-map, rising-push, rising-front, earlier_less, later_greater}
 use Rattle.history.proofs.PlanLaws.{reverse-cons}
 use Rattle.history.specs.Stacks.{OnFull, HasStepped, HasStoredIds, HaveStoredIds}
-use Rattle.history.specs.Steps.{stamped, IsNow, IsFull, IsFullId, IsLeastFull, PartHasGiven, IsGivenByPart, IsStep, ComesOf}
+use Rattle.history.specs.Steps.{IsNow, IsFull, IsFullId, IsLeastFull, PartHasGiven, IsGivenByPart, IsStep, ComesOf}
 
 pub reverse-Contains : {X : Type 0} (xs : List X) (x : X) → Contains (reverse xs) x → Contains xs x
 reverse-Contains [] x c = absurd (omega (arith, c.1))

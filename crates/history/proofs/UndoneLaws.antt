@@ -4,6 +4,7 @@ use Rattle.std.proofs.lemmas.Option.{same_Some}
 use Rattle.elem.specs.ElementValue.{ElementValue}
 use Rattle.elem.specs.Facts.{IsElement}
 use Rattle.elem.specs.Order.{unstamped, has_id}
+use Rattle.elem.specs.Stamp.{stamped}
 use Rattle.elem.proofs.CallerLemmas.{element_with_deleted}
 use Rattle.elem_store.specs.Updates.{element_of}
 use Rattle.elem_store.proofs.CallerLemmas.{same_id, find-Some}
@@ -12,7 +13,7 @@ use Rattle.delta.specs.Delta.{Delta}
 use Rattle.delta.specs.Pairs.{Pair, EntryStandsFor, pair_with, pairs_from}
 use Rattle.delta.specs.Parts.{counted, inverse}
 use Rattle.delta.proofs.CallerLemmas.{Contains-to_map, undone-from, applied-back}
-use Rattle.history.specs.Steps.{stamped, AreGiven}
+use Rattle.history.specs.Steps.{AreGiven}
 use Rattle.history.specs.Undone.{EachIsElement, ArePairsOfElements, AreUndone, ComesBack}
 
 -- a stored element is an element

@@ -2,6 +2,7 @@
 use Rattle.std.specs.Prelude.{◌≡◌, ℕ, ◌+◌, ◌-◌, ◌<◌, min, List, [], ◌∷◌, ◌++◌, Option, Some, None, IfSome, length, take, drop, map, reverse, Contains, IsSome}
 use Rattle.board_base.specs.declared.stop.Stop.{Stop}
 use Rattle.board_base.specs.declared.stop.Stop.TheVariants.{Fault, Memory}
+use Rattle.elem.specs.declared.stamp.Stamp.{Stamp}
 use Rattle.elem.specs.ElementValue.{ElementValue}
 use Rattle.elem_store.specs.Updates.{element_of}
 use Rattle.delta.specs.Delta.{Delta}
@@ -10,6 +11,7 @@ use Rattle.delta.specs.declared.stamping.VersionFull.{VersionFull}
 use Rattle.history.specs.declared.planned.Direction.{Direction}
 use Rattle.history.specs.declared.planned.Direction.TheVariants.{Undo, Redo}
 use Rattle.history.specs.declared.planned.HistoryStep.{HistoryStep}
+use Rattle.history.specs.declared.planned.Plan.{Plan}
 use Rattle.history.specs.Steps.{IsStep, IsLeastFull, IsSeen}
 
 -- the entries of a history, the next one to undo or to redo last
@@ -83,10 +85,10 @@ pub record HasStepped (store : List ElementValue) (time nonce : ℕ) (given : Li
   pub step : IsStep parts store time nonce given made
 
 -- One undo, or one redo, from the stacks before to those after.
-abbrev pub HasTakenBack : Direction → List ElementValue → ℕ → ℕ → List ElementValue → Stacks
+abbrev pub HasTakenBack : Direction → List ElementValue → Stamp → List ElementValue → Stacks
     → Stacks → Type 0
-HasTakenBack direction store time nonce given old new =
-    HasStepped store time nonce given (side direction old) (side (other direction) old)
+HasTakenBack direction store stamp given old new =
+    HasStepped store stamp.time stamp.nonce given (side direction old) (side (other direction) old)
     (side direction new) (side (other direction) new)
 
 -- The topmost entry of a stack that is seen would change the element of this id, which stands at
@@ -145,11 +147,11 @@ FitsIn step stacks =
     (side step.direction (noted step.pending stacks)))
 
 -- what is planned for a stack: nothing where no entry is seen, or the step from the topmost one
-pub record IsPlanned (store : List ElementValue) (time nonce : ℕ) (stack : List (List Delta))
-    (given : List ElementValue) (made : List Delta) (passed : ℕ) : Type 0 where
+pub record IsPlanned (store : List ElementValue) (stamp : Stamp) (stack : List (List Delta))
+    (plan : Plan) : Type 0 where
   pub below : List (List Delta)
   pub parts : List Delta
   pub above : List (List Delta)
   pub topmost : IsTopmostSeen store stack below parts above
-  pub count : passed ≡ length above
-  pub step : IsStep parts store time nonce given made
+  pub count : plan.passed ≡ length above
+  pub step : IsStep parts store stamp.time stamp.nonce plan.given plan.made

@@ -4,10 +4,11 @@ use Rattle.frac_keys.specs.Rising.{are_rising}
 use Rattle.elem.specs.ElementValue.{ElementValue}
 use Rattle.elem.specs.Facts.{IsElement}
 use Rattle.elem.specs.Order.{unstamped}
+use Rattle.elem.specs.Stamp.{stamped}
 use Rattle.elem_store.specs.Updates.{element_of, ids_of}
 use Rattle.delta.specs.Pairs.{Pair, IsUnchanged}
 use Rattle.delta.specs.Undone.{IsUndone}
-use Rattle.history.specs.Steps.{stamped, Differ}
+use Rattle.history.specs.Steps.{Differ}
 
 -- Each of the list is an element; so are both of each pair.
 abbrev pub EachIsElement : List ElementValue → Type 0

@@ -2,13 +2,13 @@
 
 ghost use Rattle.std.specs.Prelude.{◌≡◌, ◌↔◌, ◌≤◌, ◌<◌, List as Items, [], Ok, IsOk, None, length, IfOk, IfErr, IfSome, OnOk, OnErr};
 ghost use Rattle.elem.specs.ElementValue.{ElementValue};
-ghost use Rattle.elem.specs.Facts.{greatest_whole};
 ghost use Rattle.history.specs.Stacks.{HasStoredIds, HaveStoredIds, AreUnseen, HasTakenBack, IsPlanned, StopsAt, OnFull, FitsIn, noted, put_step, side};
 
 use crate::planned::{Direction, HistoryStep, Plan, note_within, shift, step_of};
 use crate::step::{Step, is_nothing, plan_back, plan_noted};
 use board_base::Stop;
 use delta::{Entry, VersionFull};
+use elem::Stamp;
 use elem_store::Store;
 use std::alloc::{AllocError, Global};
 use std::marker::Model;
@@ -102,17 +102,14 @@ impl History {
         direction: Direction,
         pending: Entry,
         store: &Store,
-        time: u64,
-        nonce: u64,
+        stamp: Stamp,
     ) -> Result<(HistoryStep, Step), Stop<VersionFull>>
-        requires time { time ≤ greatest_whole }
-        requires nonce { nonce ≤ greatest_whole }
         requires pending { HasStoredIds store.now.elements pending }
         requires stored { HaveStoredIds store.now.elements (side direction self.now.stacks) }
 
         ensures done { (step : HistoryStep) (given : Items ElementValue)
             → result ≡ Ok (step, Step.Done given)
-            → HasTakenBack direction store.now.elements time nonce given
+            → HasTakenBack direction store.now.elements stamp given
             (noted pending self.now.stacks) (put_step step self.now.stacks) }
         ensures nothing { IfOk result
             (λ plan. (plan.1 ≡ Step.Nothing) ↔ AreUnseen store.now.elements
@@ -124,7 +121,7 @@ impl History {
             (λ stop. OnFull stop
             (StopsAt store.now.elements (side direction (noted pending self.now.stacks)))) }
     {
-        let plan = self.plan_side(direction, &pending, store, time, nonce)?;
+        let plan = self.plan_side(direction, &pending, store, stamp)?;
         Ok(step_of(pending, direction, plan))
     }
 
@@ -135,29 +132,23 @@ impl History {
         direction: Direction,
         pending: &Entry,
         store: &Store,
-        time: u64,
-        nonce: u64,
+        stamp: Stamp,
     ) -> Result<Option<Plan>, Stop<VersionFull>>
-        requires time { time ≤ greatest_whole }
-        requires nonce { nonce ≤ greatest_whole }
         requires pending { HasStoredIds store.now.elements pending.now }
         requires stored { HaveStoredIds store.now.elements (side direction self.now.stacks) }
         ensures none { IfOk result (λ plan. plan ≡ None
             → AreUnseen store.now.elements (side direction (noted pending.now self.now.stacks))) }
         ensures some { IfOk result
-            (λ plan. IfSome plan
-            (λ p. IsPlanned store.now.elements time nonce
-            (side direction (noted pending.now self.now.stacks)) p.given p.made p.passed)) }
+            (λ plan. IfSome plan (IsPlanned store.now.elements stamp
+            (side direction (noted pending.now self.now.stacks)))) }
         ensures full { IfErr result
             (λ stop. OnFull stop
             (StopsAt store.now.elements (side direction (noted pending.now self.now.stacks)))) }
     {
         let alloc = *self.undo.allocator();
         match direction {
-            Direction::Undo => plan_noted(alloc, pending, &self.undo, store, time, nonce),
-            Direction::Redo if is_nothing(pending) => plan_back(
-                alloc, &self.redo, store, time, nonce,
-            ),
+            Direction::Undo => plan_noted(alloc, pending, &self.undo, store, stamp),
+            Direction::Redo if is_nothing(pending) => plan_back(alloc, &self.redo, store, stamp),
             Direction::Redo => Ok(None),
         }
     }

@@ -1,8 +1,7 @@
 //! What taking an entry back comes to.
 
-ghost use Rattle.std.specs.Prelude.{◌≡◌, ◌≢◌, ◌⊎◌, ◌+◌, ◌<◌, ◌≤◌, ◌++◌, [], ◌∷◌, List as Items, Some, None, true, false, IfOk, IfErr, IfSome, OnOk};
+ghost use Rattle.std.specs.Prelude.{◌≡◌, ◌≢◌, ◌⊎◌, ◌+◌, ◌<◌, ◌++◌, [], ◌∷◌, List as Items, Some, None, true, false, IfOk, IfErr, IfSome, OnOk};
 ghost use Rattle.elem.specs.ElementValue.{ElementValue};
-ghost use Rattle.elem.specs.Facts.{greatest_whole};
 ghost use Rattle.frac_keys.specs.Rising.{are_rising};
 ghost use Rattle.delta.specs.Delta.{Delta};
 ghost use Rattle.delta.specs.Facts.{part_ids};
@@ -14,8 +13,8 @@ ghost use Rattle.history.specs.Steps.{IsStep, IsFull, IsLeastFull, IsSeen, IsSee
 
 use crate::planned::Plan;
 use board_base::{List, Stop};
-use delta::{AtLimit, Entry, Part, VersionFull, apply, difference, invert, stamp};
-use elem::{Element, same_but_stamp};
+use delta::{AtLimit, Entry, Part, VersionFull, apply, difference, invert};
+use elem::{Element, Stamp, same_but_stamp};
 use elem_store::Store;
 use std::alloc::{AllocError, Global};
 
@@ -35,27 +34,23 @@ pub(crate) fn plan_noted(
     pending: &Entry,
     stack: &Vec<Entry>,
     store: &Store,
-    time: u64,
-    nonce: u64,
+    stamp: Stamp,
 ) -> Result<Option<Plan>, Stop<VersionFull>>
-    requires time { time ≤ greatest_whole }
-    requires nonce { nonce ≤ greatest_whole }
     requires pending { HasStoredIds store.now.elements pending.now }
     requires stored { HaveStoredIds store.now.elements stack.now.items }
     ensures none { IfOk result (λ plan. plan ≡ None
         → AreUnseen store.now.elements (with_entry pending.now stack.now.items)) }
     ensures some { IfOk result
-        (λ plan. IfSome plan
-        (λ p. IsPlanned store.now.elements time nonce
-        (with_entry pending.now stack.now.items) p.given p.made p.passed)) }
+        (λ plan. IfSome plan (IsPlanned store.now.elements stamp
+        (with_entry pending.now stack.now.items))) }
     ensures full { IfErr result
         (λ stop. OnFull stop
         (StopsAt store.now.elements (with_entry pending.now stack.now.items))) }
 {
     if is_nothing(pending) {
-        plan_back(alloc, stack, store, time, nonce)
+        plan_back(alloc, stack, store, stamp)
     } else {
-        plan_over(alloc, pending, stack, store, time, nonce)
+        plan_over(alloc, pending, stack, store, stamp)
     }
 }
 
@@ -74,28 +69,24 @@ fn plan_over(
     pending: &Entry,
     stack: &Vec<Entry>,
     store: &Store,
-    time: u64,
-    nonce: u64,
+    stamp: Stamp,
 ) -> Result<Option<Plan>, Stop<VersionFull>>
-    requires time { time ≤ greatest_whole }
-    requires nonce { nonce ≤ greatest_whole }
     requires pending { HasStoredIds store.now.elements pending.now }
     requires stored { HaveStoredIds store.now.elements stack.now.items }
     ensures none { IfOk result (λ plan. plan ≡ None
         → AreUnseen store.now.elements (stack.now.items ++ pending.now ∷ [])) }
     ensures some { IfOk result
-        (λ plan. IfSome plan
-        (λ p. IsPlanned store.now.elements time nonce
-        (stack.now.items ++ pending.now ∷ []) p.given p.made p.passed)) }
+        (λ plan. IfSome plan (IsPlanned store.now.elements stamp
+        (stack.now.items ++ pending.now ∷ []))) }
     ensures full { IfErr result
         (λ stop. OnFull stop (StopsAt store.now.elements (stack.now.items ++ pending.now ∷ []))) }
 {
     let seen = is_seen(alloc, pending, store)?;
     if seen {
-        let plan = planned(alloc, pending, 0, store, time, nonce)?;
+        let plan = planned(alloc, pending, 0, store, stamp)?;
         return Ok(Some(plan));
     }
-    match plan_back(alloc, stack, store, time, nonce)? {
+    match plan_back(alloc, stack, store, stamp)? {
         Some(plan) => Ok(Some(with_one_more(plan))),
         None => Ok(None),
     }
@@ -117,17 +108,14 @@ pub(crate) fn plan_back(
     alloc: Global,
     stack: &Vec<Entry>,
     store: &Store,
-    time: u64,
-    nonce: u64,
+    stamp: Stamp,
 ) -> Result<Option<Plan>, Stop<VersionFull>>
-    requires time { time ≤ greatest_whole }
-    requires nonce { nonce ≤ greatest_whole }
     requires stored { HaveStoredIds store.now.elements stack.now.items }
     ensures none { IfOk result (λ plan. plan ≡ None
         → AreUnseen store.now.elements stack.now.items) }
     ensures some { IfOk result
-        (λ plan. IfSome plan
-        (λ p. IsPlanned store.now.elements time nonce stack.now.items p.given p.made p.passed)) }
+        (λ plan. IfSome plan (IsPlanned store.now.elements stamp
+        stack.now.items)) }
     ensures passed { IfOk result (λ plan. IfSome plan (λ p. p.passed < 18446744073709551615)) }
     ensures full { IfErr result (λ stop. OnFull stop (StopsAt store.now.elements stack.now.items)) }
 {
@@ -135,7 +123,7 @@ pub(crate) fn plan_back(
         Some(i) => {
             let entry = &stack[i];
             let passed = (stack.len() - 1 - i) as u64;
-            let plan = planned(alloc, entry, passed, store, time, nonce)?;
+            let plan = planned(alloc, entry, passed, store, stamp)?;
             Ok(Some(plan))
         }
         None => Ok(None),
@@ -218,14 +206,11 @@ fn planned(
     entry: &Entry,
     passed: u64,
     store: &Store,
-    time: u64,
-    nonce: u64,
+    stamp: Stamp,
 ) -> Result<Plan, Stop<VersionFull>>
-    requires time { time ≤ greatest_whole }
-    requires nonce { nonce ≤ greatest_whole }
     requires stored { HasStoredIds store.now.elements entry.now }
     ensures ok { IfOk result
-        (λ plan. IsStep entry.now store.now.elements time nonce plan.given plan.made) }
+        (λ plan. IsStep entry.now store.now.elements stamp.time stamp.nonce plan.given plan.made) }
     ensures passed { IfOk result (λ plan. plan.passed ≡ passed) }
     ensures full { IfErr result
         (λ stop. OnFull stop (λ id. IsLeastFull entry.now store.now.elements id)) }
@@ -234,7 +219,7 @@ fn planned(
     let mut made = Vec::new(alloc);
     for part in entry.parts.as_slice() {
         let now = store.get(&part.id).unwrap();
-        revert(alloc, part, now, time, nonce, &mut given, &mut made)?;
+        revert(alloc, part, now, stamp, &mut given, &mut made)?;
     }
     Ok(Plan {
         given: List::from_vec(given),
@@ -250,24 +235,21 @@ fn revert(
     alloc: Global,
     part: &Part,
     now: &Element,
-    time: u64,
-    nonce: u64,
+    stamp: Stamp,
     given: &mut Vec<Element>,
     made: &mut Vec<Part>,
 ) -> Result<(), Stop<VersionFull>>
     requires id { part.now.id ≡ now.now.id }
-    requires time { time ≤ greatest_whole }
-    requires nonce { nonce ≤ greatest_whole }
     ensures ok { (parts : Items Delta) (store : Items ElementValue)
-        → IsStep parts store time nonce given.old.items made.old.items
+        → IsStep parts store stamp.time stamp.nonce given.old.items made.old.items
         → are_rising (part_ids (parts ++ part.now ∷ [])) ≡ true
         → element_of store part.now.id ≡ Some now.now
         → OnOk result (IsStep
-        (parts ++ part.now ∷ []) store time nonce given.new.items made.new.items) }
+        (parts ++ part.now ∷ []) store stamp.time stamp.nonce given.new.items made.new.items) }
     ensures full { IfErr result (λ stop. OnFull stop (λ id. (id ≡ part.now.id)
         × IsFull part.now now.now)) }
 {
-    if let Some(e) = stamped(alloc, part, now, time, nonce)? {
+    if let Some(e) = stamped(alloc, part, now, stamp)? {
         add(alloc, given, made, now, e)?;
     }
     Ok(())
@@ -278,13 +260,10 @@ fn stamped(
     alloc: Global,
     part: &Part,
     now: &Element,
-    time: u64,
-    nonce: u64,
+    stamp: Stamp,
 ) -> Result<Option<Element>, Stop<VersionFull>>
     requires id { part.now.id ≡ now.now.id }
-    requires time { time ≤ greatest_whole }
-    requires nonce { nonce ≤ greatest_whole }
-    ensures ok { IfOk result (ComesOf part.now now.now time nonce) }
+    ensures ok { IfOk result (ComesOf part.now now.now stamp.time stamp.nonce) }
     ensures full { IfErr result (λ stop. OnFull stop (λ id. (id ≡ part.now.id)
         × IsFull part.now now.now)) }
 {
@@ -292,7 +271,7 @@ fn stamped(
     if same_but_stamp(now, &e) {
         return Ok(None);
     }
-    match stamp(&mut e, time, nonce) {
+    match delta::stamp(&mut e, stamp) {
         Ok(()) => Ok(Some(e)),
         Err(AtLimit) => Err(Stop::Fault(VersionFull(part.id.try_clone()?))),
     }

@@ -8,6 +8,7 @@ use Rattle.frac_keys.specs.Rising.{are_rising}
 use Rattle.elem.specs.ElementValue.{ElementValue}
 use Rattle.elem.specs.Order.{unstamped}
 use Rattle.elem.specs.Said.{AreElements}
+use Rattle.elem.specs.Stamp.{stamped}
 use Rattle.elem_store.specs.Updates.{element_of, ids_of}
 use Rattle.elem_store.proofs.CallerLemmas.{find-Some, is_some-find, list_any-false}
 use Rattle.delta.specs.Pairs.{Pair, pair_with}
@@ -15,7 +16,7 @@ use Rattle.delta.proofs.CallerLemmas.{Contains-map, Contains-to_map}
 use Rattle.undoing.specs.Carrying.{taken_all}
 use Rattle.undoing.specs.Differing.{differ}
 use Rattle.undoing.specs.Entries.{IsEntry, IsGiven}
-use Rattle.undoing.specs.Steps.{Reverted, reverted, is_visible, is_seen, stamped, given, made}
+use Rattle.undoing.specs.Steps.{Reverted, reverted, is_visible, is_seen, given, made}
 use Rattle.undoing.specs.Undoing.{undone}
 use Rattle.undoing.proofs.CallerLemmas.{differ-false, found-is, given-each, given-all, given-taken, given-rise, undone-stamp, undone-element}
 use Rattle.replica.proofs.Backward.{undone-back}

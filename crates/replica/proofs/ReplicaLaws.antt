@@ -1,9 +1,9 @@
 -- A replica stands for what its board stands for, with the ids that are held.
-use Rattle.std.proofs.Common.{◌≡◌, ◌≤◌, ℕ, List, [], ◌∷◌, Option, Some, None, Result, Ok, Err, IfOk, IfErr, OnOk, OnErr, refl, sym, ap, ◌∙◌, subst}
+use Rattle.std.proofs.Common.{◌≡◌, ℕ, List, [], ◌∷◌, Option, Some, None, Result, Ok, Err, IfOk, IfErr, OnOk, OnErr, refl, sym, ap, ◌∙◌, subst}
 use Rattle.board_base.specs.declared.stop.Stop.{Stop}
 use Rattle.board_base.specs.declared.stop.Stop.TheVariants.{Fault, Memory}
+use Rattle.elem.specs.declared.stamp.Stamp.{Stamp}
 use Rattle.elem.specs.ElementValue.{ElementValue}
-use Rattle.elem.specs.Facts.{greatest_whole}
 use Rattle.delta.specs.Pairs.{Pair}
 use Rattle.delta.specs.declared.stamping.VersionFull.{VersionFull}
 use Rattle.reconcile.specs.Ids.{free_elements}
@@ -144,57 +144,56 @@ module _ (old new : Told) (held : List (List ℕ)) (replica : Kept) (is : kept_o
 
     own-answers : (plan : PlannedStep) → IsPlannedStep old.stored old.snapshot old.stacks plan → (s : State)
         → ReplicaStandsFor replica s → state.IsStepAnswer plan.step
-        (state.turn_on plan.direction plan.time plan.nonce s)
+        (state.turn_on plan.direction plan.stamp.time plan.stamp.nonce s)
     own-answers plan h s st =
-        plan-answers plan.direction old plan.time plan.nonce h.time h.nonce told.0 h.entry h.stands plan.step
+        plan-answers plan.direction old plan.stamp told.0 h.entry h.stands plan.step
         (put_step plan.history old.stacks) h.comes s (to-told old held s (own-stands s st))
 
-    pub planned-answers : (direction : Direction) (time nonce : ℕ) (r : Result PlannedStep (Stop VersionFull))
-        → IfOk r (IsPlannedStep old.stored old.snapshot old.stacks) → IfOk r (IsPlanOf direction time nonce)
+    pub planned-answers : (direction : Direction) (stamp : Stamp) (r : Result PlannedStep (Stop VersionFull))
+        → IfOk r (IsPlannedStep old.stored old.snapshot old.stacks) → IfOk r (IsPlanOf direction stamp)
         → IfOk r (λ plan. (s : State) → ReplicaStandsFor replica s
-        → state.IsStepAnswer plan.step (state.turn_on direction time nonce s))
-    planned-answers direction time nonce (Ok plan) h call = λ (s : State) (st : ReplicaStandsFor replica s).
-        subst (state.IsStepAnswer plan.step) (λ i. state.turn_on (call.of_direction i) (call.of_time i)
-        (call.of_nonce i)
-        s) (own-answers plan h s st)
-    planned-answers direction time nonce (Err stop) h call = tt
+        → state.IsStepAnswer plan.step (state.turn_on direction stamp.time stamp.nonce s))
+    planned-answers direction stamp (Ok plan) h call = λ (s : State) (st : ReplicaStandsFor replica s).
+        subst (state.IsStepAnswer plan.step) (λ i. state.turn_on (call.of_direction i) (call.of_stamp i).time
+        (call.of_stamp i).nonce s) (own-answers plan h s st)
+    planned-answers direction stamp (Err stop) h call = tt
 
-    full-stops : (direction : Direction) (time nonce : ℕ) → time ≤ greatest_whole → nonce ≤ greatest_whole
-        → (stop : Stop VersionFull) → OnFull stop (HasStopped direction old)
+    full-stops : (direction : Direction) (stamp : Stamp) (stop : Stop VersionFull)
+        → OnFull stop (HasStopped direction old)
         → OnFull stop (λ id. (s : State) → ReplicaStandsFor replica s
-        → state.turn_on direction time nonce s ≡ Some (Err id))
-    full-stops direction time nonce early small (Fault full) h =
-        λ s st. turn-full direction old time nonce early small told.0 full.0 h s
+        → state.turn_on direction stamp.time stamp.nonce s ≡ Some (Err id))
+    full-stops direction stamp (Fault full) h =
+        λ s st. turn-full direction old stamp told.0 full.0 h s
         (to-told old held s (own-stands s st))
-    full-stops direction time nonce early small Memory h = tt
+    full-stops direction stamp Memory h = tt
 
-    pub plan-stops : (direction : Direction) (time nonce : ℕ) → time ≤ greatest_whole → nonce ≤ greatest_whole
-        → (r : Result PlannedStep (Stop VersionFull)) → IfErr r (λ stop. OnFull stop (HasStopped direction old))
+    pub plan-stops : (direction : Direction) (stamp : Stamp) (r : Result PlannedStep (Stop VersionFull))
+        → IfErr r (λ stop. OnFull stop (HasStopped direction old))
         → IfErr r (λ stop. OnFull stop (λ id. (s : State) → ReplicaStandsFor replica s
-        → state.turn_on direction time nonce s ≡ Some (Err id)))
-    plan-stops direction time nonce early small (Ok plan) full = tt
-    plan-stops direction time nonce early small (Err stop) full =
-        full-stops direction time nonce early small stop full
+        → state.turn_on direction stamp.time stamp.nonce s ≡ Some (Err id)))
+    plan-stops direction stamp (Ok plan) full = tt
+    plan-stops direction stamp (Err stop) full =
+        full-stops direction stamp stop full
 
     -- a planned step that was put
     module _ (plan : PlannedStep) (h : IsPlannedStep old.stored old.snapshot old.stacks plan)
         (put : HasPutStep old plan.step (put_step plan.history old.stacks) new) where
-      turned : HasTurned plan.direction old plan.time plan.nonce plan.step new
+      turned : HasTurned plan.direction old plan.stamp plan.step new
       turned = turned-from old new plan h put
 
       pub put-told : IsTold new
       put-told = (
-        turned-sound plan.direction old plan.time plan.nonce h.time h.nonce told.0 plan.step new turned,
+        turned-sound plan.direction old plan.stamp told.0 plan.step new turned,
         (
-          state.after_turn plan.direction plan.time plan.nonce told.1.0,
-          turned-stands plan.direction old plan.time plan.nonce h.time h.nonce told.0 plan.step new turned told.1.0
+          state.after_turn plan.direction plan.stamp.time plan.stamp.nonce told.1.0,
+          turned-stands plan.direction old plan.stamp told.0 plan.step new turned told.1.0
               told.1.1,
         ),
       )
 
       pub put-stands : (s : State) → ReplicaStandsFor replica s
-          → ReplicaStandsFor (kept_of new held) (state.after_turn plan.direction plan.time plan.nonce s)
+          → ReplicaStandsFor (kept_of new held) (state.after_turn plan.direction plan.stamp.time plan.stamp.nonce s)
       put-stands s st =
-          after-stands old new held (state.after_turn plan.direction plan.time plan.nonce)
-          (turned-stands plan.direction old plan.time plan.nonce h.time h.nonce told.0 plan.step new turned)
-          (turn-held plan.direction plan.time plan.nonce) s (own-stands s st)
+          after-stands old new held (state.after_turn plan.direction plan.stamp.time plan.stamp.nonce)
+          (turned-stands plan.direction old plan.stamp told.0 plan.step new turned)
+          (turn-held plan.direction plan.stamp.time plan.stamp.nonce) s (own-stands s st)

@@ -1,8 +1,8 @@
 -- What a board is after undo or redo: it is sound, and stands for what the same makes of a state.
-use Rattle.std.proofs.Common.{◌≡◌, ◌≤◌, ℕ, true, List, Some, None, Ok, Err, Contains, refl, sym, ◌∙◌, subst}
+use Rattle.std.proofs.Common.{◌≡◌, ℕ, true, List, Some, None, Ok, Err, Contains, refl, sym, ◌∙◌, subst}
 use Rattle.std.proofs.lemmas.List.Elements.{All-weaker, All-contains_itself}
+use Rattle.elem.specs.declared.stamp.Stamp.{Stamp}
 use Rattle.elem.specs.ElementValue.{ElementValue}
-use Rattle.elem.specs.Facts.{greatest_whole}
 use Rattle.elem.specs.Said.{AreElements}
 use Rattle.elem_store.specs.Updates.{is_taken}
 use Rattle.delta.specs.Delta.{Delta}
@@ -92,49 +92,51 @@ both-ids Undo stored stacks own others = (own, others)
 both-ids Redo stored stacks own others = (others, own)
 
 -- ---- a step of undo or redo
-module _ (direction : Direction) (old : Told) (time nonce : ℕ) (early : time ≤ greatest_whole)
-    (small : nonce ≤ greatest_whole) (sound : IsSound old) where
+module _ (direction : Direction) (old : Told) (stamp : Stamp) (sound : IsSound old) where
   module _ (entry : List Delta) (stands : EntryStandsFor entry (pending old.snapshot old.stored)) where
     abbrev now : Stacks
     now = noted entry old.stacks
 
     -- the turn that is found
     turn-of : (given : List ElementValue) (new : Stacks)
-        → StacksComeBy direction old.stored time nonce (Done given) now new → (s : State) → ToldStandsFor old s
-        → (turn : Turn) × (state.turn_on direction time nonce s ≡ Some (Ok turn)) × (turn.given ≡ given)
+        → StacksComeBy direction old.stored stamp (Done given) now new → (s : State) → ToldStandsFor old s
+        → (turn : Turn) × (state.turn_on direction stamp.time stamp.nonce s ≡ Some (Ok turn)) × (turn.given ≡ given)
         × StackStandsFor (side direction new) turn.from × StackStandsFor (side (other direction) new) turn.to
     turn-of given new comes s st =
         let was = noted-stands old sound entry stands s st in
         let own = state.entries direction (state.captured s) in
         let others = state.entries (other direction) (state.captured s) in
-        let t = step-done old.stored sound.stored_elements time nonce early small given (side direction now)
+        let t = step-done old.stored sound.stored_elements stamp.time stamp.nonce stamp.early stamp.small given
+        (side direction now)
         (side (other direction) now) (side direction new) (side (other direction) new) own
         (side-stands direction (captured_told entry old) (state.captured s) was) comes others
         (side-stands (other direction) (captured_told entry old) (state.captured s) was) in
-        (t.0, subst (λ es. step es time nonce own others ≡ Some (Ok t.0)) st.stored t.1, t.2, t.3, t.4)
+        (t.0, subst (λ es. step es stamp.time stamp.nonce own others ≡ Some (Ok t.0)) st.stored t.1, t.2, t.3, t.4)
 
-    none-of : (new : Stacks) → StacksComeBy direction old.stored time nonce Nothing now new → (s : State)
-        → ToldStandsFor old s → state.turn_on direction time nonce s ≡ None
+    none-of : (new : Stacks) → StacksComeBy direction old.stored stamp Nothing now new → (s : State)
+        → ToldStandsFor old s → state.turn_on direction stamp.time stamp.nonce s ≡ None
     none-of new comes s st =
         let was = noted-stands old sound entry stands s st in
         let own = state.entries direction (state.captured s) in
         let others = state.entries (other direction) (state.captured s) in
-        subst (λ es. step es time nonce own others ≡ None) st.stored
-        (step-nothing old.stored sound.stored_elements time nonce (side direction now) own others
+        subst (λ es. step es stamp.time stamp.nonce own others ≡ None) st.stored
+        (step-nothing old.stored sound.stored_elements stamp.time stamp.nonce (side direction now) own others
         (side-stands direction (captured_told entry old) (state.captured s) was) comes.0)
 
     -- what a plan answers
-    pub plan-answers : (answer : Step) (new : Stacks) → StacksComeBy direction old.stored time nonce answer now new
-        → (s : State) → ToldStandsFor old s → state.IsStepAnswer answer (state.turn_on direction time nonce s)
+    pub plan-answers : (answer : Step) (new : Stacks) → StacksComeBy direction old.stored stamp answer now new
+        → (s : State) → ToldStandsFor old s
+        → state.IsStepAnswer answer (state.turn_on direction stamp.time stamp.nonce s)
     plan-answers (Done given) new comes s st = let t = turn-of given new comes s st in (t.0, t.1, sym t.2)
     plan-answers Nothing new comes s st = none-of new comes s st
 
   -- what the board is and stands for once it is put
-  pub turned-sound : (answer : Step) (new : Told) → HasTurned direction old time nonce answer new → IsSound new
+  pub turned-sound : (answer : Step) (new : Told) → HasTurned direction old stamp answer new → IsSound new
   turned-sound (Done given) new h =
       let was = noted-sound old sound h.entry h.stands in
       let stacks = noted h.entry old.stacks in
-      let ids = ids-stored old.stored given time nonce (side direction stacks) (side (other direction) stacks)
+      let ids =
+      ids-stored old.stored given stamp.time stamp.nonce (side direction stacks) (side (other direction) stacks)
       (side direction new.stacks) (side (other direction) new.stacks) h.comes
       (side-ids direction old.stored stacks was.undo_ids was.redo_ids)
       (side-ids (other direction) old.stored stacks was.undo_ids was.redo_ids) in
@@ -147,8 +149,8 @@ module _ (direction : Direction) (old : Told) (time nonce : ℕ) (early : time �
       ∙ sym sound.view) h.put.snapshot h.comes.1) in
       subst IsSound same (noted-sound old sound h.entry h.stands)
 
-  pub turned-stands : (answer : Step) (new : Told) → HasTurned direction old time nonce answer new → (s : State)
-      → ToldStandsFor old s → ToldStandsFor new (state.after_turn direction time nonce s)
+  pub turned-stands : (answer : Step) (new : Told) → HasTurned direction old stamp answer new → (s : State)
+      → ToldStandsFor old s → ToldStandsFor new (state.after_turn direction stamp.time stamp.nonce s)
   turned-stands (Done given) new h s st =
       let t = turn-of h.entry h.stands given new.stacks h.comes s st in
       let is : taken_all given old.stored ≡ taken_all t.0.given s.stored = λ i. taken_all (sym t.2 i) (st.stored i) in
@@ -163,13 +165,14 @@ module _ (direction : Direction) (old : Told) (time nonce : ℕ) (early : time �
       (subst (λ (u : Told). ToldStandsFor u (state.captured s)) same (noted-stands old sound h.entry h.stands s st))
 
   pub turn-full : (id : List ℕ) → HasStopped direction old id → (s : State) → ToldStandsFor old s
-      → state.turn_on direction time nonce s ≡ Some (Err id)
+      → state.turn_on direction stamp.time stamp.nonce s ≡ Some (Err id)
   turn-full id h s st =
       let was = noted-stands old sound h.entry h.stands s st in
       let stacks = noted h.entry old.stacks in
       let own = state.entries direction (state.captured s) in
       let others = state.entries (other direction) (state.captured s) in
-      subst (λ es. step es time nonce own others ≡ Some (Err id)) st.stored
-      (step-full old.stored sound.stored_elements time nonce (side direction stacks) (side (other direction) stacks) own
+      subst (λ es. step es stamp.time stamp.nonce own others ≡ Some (Err id)) st.stored
+      (step-full old.stored sound.stored_elements stamp.time stamp.nonce (side direction stacks)
+      (side (other direction) stacks) own
       others id (side-stands direction (captured_told h.entry old) (state.captured s) was)
       (side-stands (other direction) (captured_told h.entry old) (state.captured s) was) h.stops)

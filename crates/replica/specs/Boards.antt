@@ -1,8 +1,8 @@
 -- The parts of a replica without their room, and what holds of them. This project's own.
-use Rattle.std.specs.Prelude.{◌≡◌, ℕ, ◌≤◌, List, true, All, IsSome}
+use Rattle.std.specs.Prelude.{◌≡◌, ℕ, List, true, All, IsSome}
 use Rattle.frac_keys.specs.Rising.{are_rising}
+use Rattle.elem.specs.declared.stamp.Stamp.{Stamp}
 use Rattle.elem.specs.ElementValue.{ElementValue}
-use Rattle.elem.specs.Facts.{greatest_whole}
 use Rattle.elem.specs.Said.{AreElements}
 use Rattle.elem_store.specs.Updates.{element_of, ids_of, is_taken, takings}
 use Rattle.delta.specs.Delta.{Delta}
@@ -134,36 +134,33 @@ pub record HasPutStep (old : Told) (step : Step) (after : Stacks) (new : Told) :
   pub stacks : new.stacks ≡ after
 
 -- How the stacks came, by what the step answers.
-abbrev pub StacksComeBy : Direction → List ElementValue → ℕ → ℕ → Step → Stacks → Stacks → Type 0
-StacksComeBy direction stored time nonce (Done given) old new =
-    HasTakenBack direction stored time nonce given old new
-StacksComeBy direction stored time nonce Nothing old new =
+abbrev pub StacksComeBy : Direction → List ElementValue → Stamp → Step → Stacks → Stacks → Type 0
+StacksComeBy direction stored stamp (Done given) old new =
+    HasTakenBack direction stored stamp given old new
+StacksComeBy direction stored stamp Nothing old new =
     AreUnseen stored (side direction old) × (new ≡ old)
 
 -- A step is planned, from what is pending on: its plan for the stacks fits in them, and they come
 -- by it.
 pub record IsPlannedStep (stored snapshot : List ElementValue) (stacks : Stacks)
     (plan : PlannedStep) : Type 0 where
-  pub time : plan.time ≤ greatest_whole
-  pub nonce : plan.nonce ≤ greatest_whole
   pub entry : List Delta
   pub stands : EntryStandsFor entry (pending snapshot stored)
   pub fits : FitsIn plan.history stacks
-  pub comes : StacksComeBy plan.direction stored plan.time plan.nonce plan.step (noted entry stacks)
+  pub comes : StacksComeBy plan.direction stored plan.stamp plan.step (noted entry stacks)
       (put_step plan.history stacks)
 
 -- The plan is one for this call of undo, or of redo.
-pub record IsPlanOf (direction : Direction) (time nonce : ℕ) (plan : PlannedStep) : Type 0 where
+pub record IsPlanOf (direction : Direction) (stamp : Stamp) (plan : PlannedStep) : Type 0 where
   pub of_direction : plan.direction ≡ direction
-  pub of_time : plan.time ≡ time
-  pub of_nonce : plan.nonce ≡ nonce
+  pub of_stamp : plan.stamp ≡ stamp
 
 -- One step of undo or redo, from what was pending on.
-pub record HasTurned (direction : Direction) (old : Told) (time nonce : ℕ) (step : Step)
+pub record HasTurned (direction : Direction) (old : Told) (stamp : Stamp) (step : Step)
     (new : Told) : Type 0 where
   pub entry : List Delta
   pub stands : EntryStandsFor entry (pending old.snapshot old.stored)
-  pub comes : StacksComeBy direction old.stored time nonce step (noted entry old.stacks) new.stacks
+  pub comes : StacksComeBy direction old.stored stamp step (noted entry old.stacks) new.stacks
   pub put : HasPutStep old step new.stacks new
 
 -- The step of undo or redo stops at the element of this id.

@@ -1,9 +1,8 @@
 //! What a replica stores, shows, and knows of its changes. Each call makes all that it needs first,
 //! in the order plans, copies and room, view, and then puts it in place, which takes no memory.
 
-ghost use Rattle.std.specs.Prelude.{◌≡◌, ◌≢◌, ◌↔◌, ◌≤◌, ◌<◌, [], true, false, IsTrue, Ok, Err, IfOk, IfErr, OnOk, OnErr};
+ghost use Rattle.std.specs.Prelude.{◌≡◌, ◌≢◌, ◌↔◌, ◌<◌, [], true, false, IsTrue, Ok, Err, IfOk, IfErr, OnOk, OnErr};
 ghost use Rattle.frac_keys.specs.Rising.{are_rising};
-ghost use Rattle.elem.specs.Facts.{greatest_whole};
 ghost use Rattle.elem.specs.Said.{AreElements};
 ghost use Rattle.elem_store.specs.Updates.{ids_of};
 ghost use Rattle.view.specs.Shown.{live_elements, shown};
@@ -20,7 +19,7 @@ use board_base::{List, Stop};
 use board_commands::{Capture, Command};
 use delta::{Entry, VersionFull};
 use effects::{Lookup, Refusal, changed};
-use elem::{Element, copies_of};
+use elem::{Element, Stamp, copies_of};
 use elem_store::Store;
 use history::{Direction, History, HistoryStep, Step};
 use live_view::LiveView;
@@ -75,20 +74,17 @@ impl Board {
         &self,
         alloc: Global,
         command: &Command,
-        time: u64,
-        nonce: u64,
+        stamp: Stamp,
     ) -> Result<List<Element>, Stop<Refusal>>
-        requires time { time ≤ greatest_whole }
-        requires nonce { nonce ≤ greatest_whole }
         requires limits { IsWithinLimits command.now }
         requires board { IsBoard self.now }
         ensures exact { IfOk result
             (λ given. outcome self.now.store.elements
-            (shown self.now.view) command.now time nonce ≡ Ok given) }
+            (shown self.now.view) command.now stamp.time stamp.nonce ≡ Ok given) }
         ensures refused { IfErr result
             (λ stop. OnFault stop
             (λ refusal. outcome self.now.store.elements
-            (shown self.now.view) command.now time nonce ≡ Err refusal)) }
+            (shown self.now.view) command.now stamp.time stamp.nonce ≡ Err refusal)) }
     {
         let lookup = Lookup {
             store: &self.store,
@@ -96,7 +92,7 @@ impl Board {
             names: self.view.names(),
             unsettled: self.view.unsettled(),
         };
-        changed(alloc, &lookup, command, time, nonce)
+        changed(alloc, &lookup, command, stamp)
     }
 
     /// Stores what a change gave, captured as asked.
@@ -184,27 +180,21 @@ impl Board {
     pub(crate) fn plan(
         &mut self,
         direction: Direction,
-        time: u64,
-        nonce: u64,
+        stamp: Stamp,
     ) -> Result<PlannedStep, Stop<VersionFull>>
         requires board { IsBoard self.old }
-        requires time { time ≤ greatest_whole }
-        requires nonce { nonce ≤ greatest_whole }
         ensures planned { IfOk result (IsPlannedStep self.old.store.elements
             self.old.snapshot.elements self.old.history.stacks) }
-        ensures call { IfOk result (IsPlanOf direction time nonce) }
+        ensures call { IfOk result (IsPlanOf direction stamp) }
         ensures full { IfErr result (λ stop. OnFull stop (HasStopped direction (told self.old))) }
         ensures kept { told self.new ≡ told self.old }
         ensures untouched { IsUntouched self.new }
     {
         let (_, pending) = self.snapshot.plan_capture(&self.store, &self.touched, &[])?;
-        let (history, step) = self
-            .history
-            .plan(direction, pending, &self.store, time, nonce)?;
+        let (history, step) = self.history.plan(direction, pending, &self.store, stamp)?;
         Ok(PlannedStep {
             direction,
-            time,
-            nonce,
+            stamp,
             history,
             step,
         })

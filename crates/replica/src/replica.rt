@@ -1,7 +1,6 @@
 //! A replica.
 
-ghost use Rattle.std.specs.Prelude.{◌≡◌, ◌≢◌, ◌↔◌, ◌≤◌, [], true, false, Some, Ok, Err, length, IsOk, IsTrue, IfOk, IfErr, OnOk, OnErr};
-ghost use Rattle.elem.specs.Facts.{greatest_whole};
+ghost use Rattle.std.specs.Prelude.{◌≡◌, ◌≢◌, ◌↔◌, [], true, false, Some, Ok, Err, length, IsOk, IsTrue, IfOk, IfErr, OnOk, OnErr};
 ghost use Rattle.view.specs.Shown.{live_elements, shown};
 ghost use Rattle.effects.specs.Changed.{OnFault, outcome};
 ghost use Rattle.board_commands.specs.Limits.{IsWithinLimits};
@@ -19,7 +18,7 @@ use board_base::{List, Stop};
 use board_commands::{Capture, Command};
 use delta::VersionFull;
 use effects::Refusal;
-use elem::Element;
+use elem::{Element, Stamp};
 use elem_store::Store;
 use history::{Direction, Step};
 use json_text::Text;
@@ -32,8 +31,8 @@ use std::marker::Model;
 /// stored elements, its snapshot, its stacks of entries and the ids that are held; for want of
 /// memory they are as before each call.
 ///
-/// `specs/State.antt` says over whole elements what each call makes of a replica; a clause on a call is for every state that
-/// the replica stands for.
+/// `specs/State.antt` says over whole elements what each call makes of a replica; a clause on a
+/// call is for every state that the replica stands for.
 pub struct Replica {
     alloc: Global,
     board: Board,
@@ -86,48 +85,41 @@ impl Replica {
         &mut self,
         command: &Command,
         capture: Capture,
-        time: u64,
-        nonce: u64,
+        stamp: Stamp,
     ) -> Result<List<Element>, Stop<Refusal>>
-        requires time { time ≤ greatest_whole }
-        requires nonce { nonce ≤ greatest_whole }
         requires limits { IsWithinLimits command.now }
         ensures given { IfOk result
             (λ given. outcome self.old.stored
-            (shown (live_elements self.old.stored)) command.now time nonce ≡ Ok given) }
+            (shown (live_elements self.old.stored)) command.now stamp.time stamp.nonce ≡ Ok given) }
         ensures refused { IfErr result
             (λ stop. OnFault stop
             (λ refusal. outcome self.old.stored
-            (shown (live_elements self.old.stored)) command.now time nonce ≡ Err refusal)) }
+            (shown (live_elements self.old.stored)) command.now stamp.time stamp.nonce
+            ≡ Err refusal)) }
         ensures after { OnOk result ((s : State) → ReplicaStandsFor self.old s
-            → ReplicaStandsFor self.new (state.after_change command.now capture time nonce s)) }
+            → ReplicaStandsFor self.new (state.after_change command.now capture
+            stamp.time stamp.nonce s)) }
         ensures err { OnErr result (self.new ≡ self.old) }
     {
-        let given = self.given(command, time, nonce)?;
+        let given = self.given(command, stamp)?;
         self.store_given(capture, &given)?;
         Ok(given)
     }
 
     /// The elements that a command changes, as they become, in the order of their ids; or the
     /// refusal. Each that changes is stamped with the time and the nonce.
-    pub fn given(
-        &self,
-        command: &Command,
-        time: u64,
-        nonce: u64,
-    ) -> Result<List<Element>, Stop<Refusal>>
-        requires time { time ≤ greatest_whole }
-        requires nonce { nonce ≤ greatest_whole }
+    pub fn given(&self, command: &Command, stamp: Stamp) -> Result<List<Element>, Stop<Refusal>>
         requires limits { IsWithinLimits command.now }
         ensures given { IfOk result
             (λ given. outcome self.now.stored
-            (shown (live_elements self.now.stored)) command.now time nonce ≡ Ok given) }
+            (shown (live_elements self.now.stored)) command.now stamp.time stamp.nonce ≡ Ok given) }
         ensures refused { IfErr result
             (λ stop. OnFault stop
             (λ refusal. outcome self.now.stored
-            (shown (live_elements self.now.stored)) command.now time nonce ≡ Err refusal)) }
+            (shown (live_elements self.now.stored)) command.now stamp.time stamp.nonce
+            ≡ Err refusal)) }
     {
-        self.board.given(self.alloc, command, time, nonce)
+        self.board.given(self.alloc, command, stamp)
     }
 
     /// Stores what a command changes, captured as asked.
@@ -179,24 +171,17 @@ impl Replica {
     /// `Nothing` comes exactly where no entry is seen; the capture stands. `VersionFull` names the
     /// least id of those that would change and stand at the greatest version; then nothing is
     /// changed.
-    pub fn turn(
-        &mut self,
-        direction: Direction,
-        time: u64,
-        nonce: u64,
-    ) -> Result<Step, Stop<VersionFull>>
-        requires time { time ≤ greatest_whole }
-        requires nonce { nonce ≤ greatest_whole }
+    pub fn turn(&mut self, direction: Direction, stamp: Stamp) -> Result<Step, Stop<VersionFull>>
         ensures step { IfOk result (λ step. (s : State) → ReplicaStandsFor self.old s
-            → state.IsStepAnswer step (state.turn_on direction time nonce s)) }
+            → state.IsStepAnswer step (state.turn_on direction stamp.time stamp.nonce s)) }
         ensures full { IfErr result (λ stop. OnFull stop (λ id. (s : State)
             → ReplicaStandsFor self.old s
-            → state.turn_on direction time nonce s ≡ Some (Err id))) }
+            → state.turn_on direction stamp.time stamp.nonce s ≡ Some (Err id))) }
         ensures after { OnOk result ((s : State) → ReplicaStandsFor self.old s
-            → ReplicaStandsFor self.new (state.after_turn direction time nonce s)) }
+            → ReplicaStandsFor self.new (state.after_turn direction stamp.time stamp.nonce s)) }
         ensures err { OnErr result (self.new ≡ self.old) }
     {
-        let plan = self.plan(direction, time, nonce)?;
+        let plan = self.plan(direction, stamp)?;
         Ok(self.put_step(plan)?)
     }
 
@@ -204,22 +189,19 @@ impl Replica {
     pub fn plan(
         &mut self,
         direction: Direction,
-        time: u64,
-        nonce: u64,
+        stamp: Stamp,
     ) -> Result<PlannedStep, Stop<VersionFull>>
-        requires time { time ≤ greatest_whole }
-        requires nonce { nonce ≤ greatest_whole }
         ensures planned { IfOk result
             (IsPlannedStep self.old.stored self.old.snapshot self.old.stacks) }
-        ensures call { IfOk result (IsPlanOf direction time nonce) }
+        ensures call { IfOk result (IsPlanOf direction stamp) }
         ensures step { IfOk result (λ plan. (s : State) → ReplicaStandsFor self.old s
-            → state.IsStepAnswer plan.step (state.turn_on direction time nonce s)) }
+            → state.IsStepAnswer plan.step (state.turn_on direction stamp.time stamp.nonce s)) }
         ensures full { IfErr result (λ stop. OnFull stop (λ id. (s : State)
             → ReplicaStandsFor self.old s
-            → state.turn_on direction time nonce s ≡ Some (Err id))) }
+            → state.turn_on direction stamp.time stamp.nonce s ≡ Some (Err id))) }
         ensures kept { self.new ≡ self.old }
     {
-        self.board.plan(direction, time, nonce)
+        self.board.plan(direction, stamp)
     }
 
     /// Puts a planned step in place, and gives what it says. It must have been planned on what the
@@ -228,13 +210,13 @@ impl Replica {
         requires planned { IsPlannedStep self.old.stored self.old.snapshot self.old.stacks plan }
         ensures step { IfOk result (λ step. step ≡ plan.step) }
         ensures after { OnOk result ((s : State) → ReplicaStandsFor self.old s
-            → ReplicaStandsFor self.new (state.after_turn plan.direction plan.time plan.nonce s)) }
+            → ReplicaStandsFor self.new (state.after_turn plan.direction plan.stamp.time
+            plan.stamp.nonce s)) }
         ensures err { OnErr result (self.new ≡ self.old) }
     {
         let PlannedStep {
             direction: _,
-            time: _,
-            nonce: _,
+            stamp: _,
             history,
             step,
         } = plan;

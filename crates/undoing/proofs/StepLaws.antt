@@ -11,6 +11,7 @@ use Rattle.elem.specs.ElementValue.{ElementValue}
 use Rattle.elem.specs.Facts.{IsElement, greatest_whole}
 use Rattle.elem.specs.Order.{unstamped}
 use Rattle.elem.specs.Said.{HasValidTexts, AreElements}
+use Rattle.elem.specs.Stamp.{stamped}
 use Rattle.elem.proofs.CallerLemmas.{bytes_less-same, bytes_less-asym, element_with_stamp, texts_with_stamp}
 use Rattle.elem_store.specs.Updates.{element_of, ids_of, is_taken, is_newer}
 use Rattle.elem_store.proofs.CallerLemmas.{Contains-head, Contains-cons, Contains-cases, find-Some, is_some-find, list_any-false}
@@ -18,7 +19,7 @@ use Rattle.delta.specs.Pairs.{Pair, IsChanged, pair_with, exchanged}
 use Rattle.delta.proofs.CallerLemmas.{Contains-map, later_greater}
 use Rattle.undoing.specs.Differing.{differ}
 use Rattle.undoing.specs.Entries.{IsOfElements, pair_ids, IsEntry, AreEntries, IsGiven, IsFullId, IsSoundTurn}
-use Rattle.undoing.specs.Steps.{Reverted, reverted, changes, is_full, is_seen, stamped, given_of, given, full_id, Sought, sought, Turn, made, turn_of, turn_unless, step}
+use Rattle.undoing.specs.Steps.{Reverted, reverted, changes, is_full, is_seen, given_of, given, full_id, Sought, sought, Turn, made, turn_of, turn_unless, step}
 use Rattle.undoing.specs.Undoing.{undone}
 use Rattle.undoing.proofs.DifferingLaws.{differ-true, found-is, rise-lower, ids-from}
 use Rattle.undoing.proofs.UndoneLaws.{undone-stamp, undone-element}

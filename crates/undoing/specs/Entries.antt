@@ -5,10 +5,11 @@ use Rattle.frac_keys.specs.Rising.{are_rising}
 use Rattle.elem.specs.ElementValue.{ElementValue}
 use Rattle.elem.specs.Facts.{IsElement, greatest_whole}
 use Rattle.elem.specs.Said.{HasValidTexts, AreElements}
+use Rattle.elem.specs.Stamp.{stamped}
 use Rattle.elem_store.specs.Updates.{Taking, element_of, ids_of}
 use Rattle.delta.specs.Pairs.{Pair, IsChanged}
 use Rattle.undoing.specs.Differing.{differ}
-use Rattle.undoing.specs.Steps.{Turn, stamped}
+use Rattle.undoing.specs.Steps.{Turn}
 use Rattle.undoing.specs.Undoing.{undone}
 
 -- Both of a pair are elements, as their types keep them.

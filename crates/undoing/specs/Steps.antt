@@ -1,10 +1,11 @@
 -- One step of undo or redo over whole elements, as a function. This project's own, after
 -- Excalidraw's history.
-use Rattle.std.specs.Prelude.{ℕ, ◌+◌, ◌==◌, List, [], ◌∷◌, Bool, false, not, ◌&&◌, ◌||◌, Option, Some, None, Result, Ok, Err, find, map, filter_map, if◌then◌else◌}
+use Rattle.std.specs.Prelude.{ℕ, ◌==◌, List, [], ◌∷◌, Bool, false, not, ◌&&◌, ◌||◌, Option, Some, None, Result, Ok, Err, find, map, filter_map, if◌then◌else◌}
 use Rattle.std.specs.List.{list_any}
 use Rattle.std.specs.Option.{option_map, option_map_or, option_and_then}
 use Rattle.elem.specs.ElementValue.{ElementValue}
 use Rattle.elem.specs.Facts.{greatest_whole}
+use Rattle.elem.specs.Stamp.{stamped}
 use Rattle.elem_store.specs.Updates.{element_of}
 use Rattle.delta.specs.Pairs.{Pair, pairs_from, exchanged}
 use Rattle.undoing.specs.Differing.{differ}
@@ -36,10 +37,7 @@ abbrev pub is_seen : List ElementValue → List Pair → Bool
 is_seen stored pairs =
     list_any (λ pair. option_map_or is_visible (reverted stored pair) false) pairs
 
--- the element with the stamp of a step
-abbrev pub stamped : ℕ → ℕ → ElementValue → ElementValue
-stamped time nonce e = record e { version = e.version + 1; nonce = nonce; updated = time }
-
+-- what undoing a change gives: the element, stamped, if that changes
 abbrev pub given_of : List ElementValue → ℕ → ℕ → Pair → Option ElementValue
 given_of stored time nonce pair =
     option_and_then (λ r. if changes r then Some (stamped time nonce r.undone) else None)

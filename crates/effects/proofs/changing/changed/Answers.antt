@@ -20,11 +20,13 @@ returns-in_err-check-clause-refused c =
     let stored = c.args.lookup.now.store.now.elements in
     let view = c.args.lookup.now.shown.now in
     let command = c.args.command.now in
-    let told : OnFault c.in_err-check.field-0.0 (λ refusal. outcome stored view command c.args.time c.args.nonce
+    let told : OnFault c.in_err-check.field-0.0 (λ refusal. outcome stored view command c.args.stamp.time
+    c.args.stamp.nonce
     ≡ Err refusal) =
     OnFault-weaker (λ refusal. refusal_of stored view command ≡ Some refusal)
-    (λ refusal. outcome stored view command c.args.time c.args.nonce ≡ Err refusal) c.in_err-check.field-0.0
-    (λ refusal. outcome-refused stored view command c.args.time c.args.nonce refusal) c.in_err-check.ensures.refused in
+    (λ refusal. outcome stored view command c.args.stamp.time c.args.stamp.nonce ≡ Err refusal) c.in_err-check.field-0.0
+    (λ refusal. outcome-refused stored view command c.args.stamp.time c.args.stamp.nonce refusal)
+    c.in_err-check.ensures.refused in
     search (rules, told)
 
 pub prepared-requires-clause-open : goal.prepared-requires-clause-open
@@ -59,11 +61,14 @@ returns-in_err-changed-clause-refused c =
     let view = c.args.lookup.now.shown.now in
     let command = c.args.command.now in
     let effect = c.in_ok-effect.effect in
-    let told : OnFault c.in_err-changed.field-0.0 (λ refusal. outcome stored view command c.args.time c.args.nonce
+    let told : OnFault c.in_err-changed.field-0.0 (λ refusal. outcome stored view command c.args.stamp.time
+    c.args.stamp.nonce
     ≡ Err refusal) =
     OnFault-weaker (λ refusal. option_map refusal_at (find (is_full (made_by effect)) stored) ≡ Some refusal)
-    (λ refusal. outcome stored view command c.args.time c.args.nonce ≡ Err refusal) c.in_err-changed.field-0.0
-    (λ refusal. outcome-full stored view command c.args.time c.args.nonce effect refusal c.in_ok-check.ensures.ok
+    (λ refusal. outcome stored view command c.args.stamp.time c.args.stamp.nonce ≡ Err refusal)
+    c.in_err-changed.field-0.0
+    (λ refusal. outcome-full stored view command c.args.stamp.time c.args.stamp.nonce effect refusal
+    c.in_ok-check.ensures.ok
     c.in_ok-effect.ensures) c.in_err-changed.ensures.full in
     search (rules, told)
 
@@ -71,12 +76,13 @@ pub with_created-requires-clause-rise : goal.with_created-requires-clause-rise
 with_created-requires-clause-rise c =
     let makes = made_by c.in_ok-effect.effect in
     rw c.in_ok-changed.ensures.changed
-    (changes-rise c.args.lookup.now.store.now.elements c.args.lookup.now.shown.now c.args.command.now c.args.time
-    c.args.nonce makes (made_by-id c.in_ok-effect.effect) c.requires.lookup.ordered)
+    (changes-rise c.args.lookup.now.store.now.elements c.args.lookup.now.shown.now c.args.command.now c.args.stamp.time
+    c.args.stamp.nonce makes (made_by-id c.in_ok-effect.effect) c.requires.lookup.ordered)
 
 pub with_created-requires-clause-distinct : goal.with_created-requires-clause-distinct
 with_created-requires-clause-distinct c = rw c.in_ok-new.ensures
-    (created-distinct c.args.lookup.now.shown.now c.args.command.now c.args.time c.args.nonce c.requires.limits
+    (created-distinct c.args.lookup.now.shown.now c.args.command.now c.args.stamp.time c.args.stamp.nonce
+    c.requires.limits
     (seen-distinct c.args.lookup.now c.requires.lookup))
 
 pub with_created-requires-clause-apart : goal.with_created-requires-clause-apart
@@ -89,13 +95,13 @@ with_created-requires-clause-apart c =
     (option_or (missing stored command) (option_or (misfit stored view command) (guarded command)))
     c.in_ok-check.ensures.ok).0 in
     rw (c.in_ok-new.ensures, c.in_ok-changed.ensures.changed)
-    (new-apart stored view command c.args.time c.args.nonce (made_by c.in_ok-effect.effect)
+    (new-apart stored view command c.args.stamp.time c.args.stamp.nonce (made_by c.in_ok-effect.effect)
     (made_by-id c.in_ok-effect.effect) free)
 
 pub returns-clause-exact : goal.returns-clause-exact
 returns-clause-exact c =
-    outcome-ok c.args.lookup.now.store.now.elements c.args.lookup.now.shown.now c.args.command.now c.args.time
-    c.args.nonce c.in_ok-effect.effect c.in_ok-new.new c.in_ok-changed.changed.items c.from_vec.result
+    outcome-ok c.args.lookup.now.store.now.elements c.args.lookup.now.shown.now c.args.command.now c.args.stamp.time
+    c.args.stamp.nonce c.in_ok-effect.effect c.in_ok-new.new c.in_ok-changed.changed.items c.from_vec.result
     c.in_ok-check.ensures.ok c.in_ok-effect.ensures c.in_ok-changed.ensures.none_full c.in_ok-changed.ensures.changed
     c.in_ok-new.ensures
     (c.from_vec.ensures ∙ c.in_ok-all.ensures)

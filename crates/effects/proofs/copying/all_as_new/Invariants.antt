@@ -5,6 +5,6 @@ use Rattle.effects.proofs.copying.all_as_new.Given as goal
 
 abbrev pub invariant-loop-e : goal.invariant-loop-e
 invariant-loop-e l = record {
-  new : l.new.items ≡ map (as_new l.fn.time l.fn.nonce) l.yielded;
+  new : l.new.items ≡ map (as_new l.fn.stamp.time l.fn.stamp.nonce) l.yielded;
   parts : l.fn.elements ≡ l.yielded ++ l.e-iterator.rest.items;
 }

@@ -26,7 +26,7 @@ returns-clause-changed c =
     let e = c.args.e.now in
     let effect = c.args.effect.now in
     let some = told-some e (made_by effect e) c.in-Some.new (sym c.in-Some.is ∙ c.in_ok-new.ensures) in
-    change_of-new effect e (sym c.is_live.ensures ∙ c.if-not-is_live.false) some.0 c.args.time c.args.nonce
+    change_of-new effect e (sym c.is_live.ensures ∙ c.if-not-is_live.false) some.0 c.args.stamp.time c.args.stamp.nonce
     c.in-Some.new c.in_ok-stamped.field-0 some.1 c.in_ok-stamped.ensures.stamped
 
 pub returns-clause-free : goal.returns-clause-free

@@ -19,7 +19,7 @@ returns-in_err-new-clause-full c =
     let makes = made_by c.args.effect.now in
     let p = is_full_at stored makes in
     let id = c.in-Some.id.now in
-    let walked = full-walked makes c.args.time c.args.nonce stored c.args.ids.now c.requires.ordered
+    let walked = full-walked makes c.args.stamp.time c.args.stamp.nonce stored c.args.ids.now c.requires.ordered
     c.into_iter-id-iterator.ensures.into_iter_gives.4 c.requires.others in
     let told : OnFault c.in_err-new.field-0.0 (λ refusal. option_map refusal_at (find (is_full makes) stored)
     ≡ Some refusal) =
@@ -27,7 +27,7 @@ returns-in_err-new-clause-full c =
     (λ refusal. option_map refusal_at (find (is_full makes) stored) ≡ Some refusal) c.in_err-new.field-0.0
     (λ refusal is.
     sym walked
-    ∙ ap (option_map VersionFull) (walked-full (change_at stored makes c.args.time c.args.nonce) p
+    ∙ ap (option_map VersionFull) (walked-full (change_at stored makes c.args.stamp.time c.args.stamp.nonce) p
     c.loop-id.id-iterator c.next.new.self id c.in-Some.ensures.steps (find p c.args.ids.now.keys) is.0
     c.loop-id.invariant.free) ∙ ap Some (sym is.1))
     c.in_err-new.ensures.full in
@@ -37,7 +37,7 @@ pub loop-id-preserved : goal.loop-id-preserved
 loop-id-preserved c =
     let stored = c.args.store.now.elements in
     let makes = made_by c.args.effect.now in
-    let f = change_at stored makes c.args.time c.args.nonce in
+    let f = change_at stored makes c.args.stamp.time c.args.stamp.nonce in
     let p = is_full_at stored makes in
     let id = c.in-Some.id.now in
     record {
@@ -53,8 +53,8 @@ pub returns-clause-changed : goal.returns-clause-changed
 returns-clause-changed c =
     let stored = c.args.store.now.elements in
     let makes = made_by c.args.effect.now in
-    let f = change_at stored makes c.args.time c.args.nonce in
-    let walked = changes-walked makes c.args.time c.args.nonce stored c.args.ids.now c.requires.ordered
+    let f = change_at stored makes c.args.stamp.time c.args.stamp.nonce in
+    let walked = changes-walked makes c.args.stamp.time c.args.stamp.nonce stored c.args.ids.now c.requires.ordered
     c.into_iter-id-iterator.ensures.into_iter_gives.4 c.requires.others in
     sym (append-nil c.loop-id.changed.items)
     ∙ ap (λ ids. c.loop-id.changed.items ++ filter_map f ids) (sym c.in-None.ensures.steps.0)
@@ -66,7 +66,7 @@ returns-clause-none_full c =
     let stored = c.args.store.now.elements in
     let makes = made_by c.args.effect.now in
     let p = is_full_at stored makes in
-    let walked = full-walked makes c.args.time c.args.nonce stored c.args.ids.now c.requires.ordered
+    let walked = full-walked makes c.args.stamp.time c.args.stamp.nonce stored c.args.ids.now c.requires.ordered
     c.into_iter-id-iterator.ensures.into_iter_gives.4 c.requires.others in
     unmapped refusal_at (find (is_full makes) stored)
     (sym walked ∙ ap (option_map VersionFull) (sym c.loop-id.invariant.free ∙ ap (find p) c.in-None.ensures.steps.0))

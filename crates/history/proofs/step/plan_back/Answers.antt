@@ -21,10 +21,10 @@ at : (c : After-index-entry) → slice_get c.args.stack.now.items c.in-Some.i �
 at c = slice_get-get_or c.args.stack.now.items c.in-Some.i c.index-entry.result.now (within c)
     ∙ ap Some (sym c.index-entry.ensures)
 
-pub planned-requires-clause-stored : goal.planned-requires-clause-stored
-planned-requires-clause-stored c =
-    let d = (goal.at.planned-requires-clause-stored c).After-index-entry in
-    c.requires.stored c.index-entry.result.now (c.in-Some.i, within d, sym c.index-entry.ensures)
+pub planned-requires : goal.planned-requires
+planned-requires c =
+    let d = (goal.at.planned-requires c).After-index-entry in
+    record { stored = c.requires.stored c.index-entry.result.now (c.in-Some.i, within d, sym c.index-entry.ensures) }
 
 pub returns-in_err-plan-in-Some-clause-full : goal.returns-in_err-plan-in-Some-clause-full
 returns-in_err-plan-in-Some-clause-full c =
@@ -35,7 +35,7 @@ returns-in_err-plan-in-Some-clause-full c =
     err_from_is_err_and c.from_residual-in_err-plan-in-Some.result c.from_residual-in_err-plan-in-Some.ensures.1 in
     rw (p.1, p.2)
     (OnFull-weaker _ (IsLeastFull entry store) (StopsAt store c.args.stack.now.items)
-    (λ id full. stops-at store c.args.time c.args.nonce c.args.stack.now.items c.in-Some.i entry id (seen d) (at d)
+    (λ id full. stops-at store c.args.stamp c.args.stack.now.items c.in-Some.i entry id (seen d) (at d)
     full)
     c.in_err-plan-in-Some.ensures.full)
 
@@ -46,8 +46,7 @@ returns-in_ok-plan-in-Some-clause-some c =
     let i = c.in-Some.i in
     let plan = c.in_ok-plan-in-Some.plan in
     let low = within d in
-    planned-at c.args.store.now.elements c.args.time c.args.nonce xs i plan.given plan.made c.index-entry.result.now
-    plan.passed (seen d) (at d)
+    planned-at c.args.store.now.elements c.args.stamp xs i c.index-entry.result.now plan (seen d) (at d)
     (omega (
       arith,
       c.in_ok-plan-in-Some.ensures.passed,

@@ -1,6 +1,5 @@
 -- An entry that isn't empty stands on the stack.
 use Rattle.std.proofs.Common.{◌≡◌, None, IfOk, IfErr, IfSome, sym, subst}
-use Rattle.history.specs.declared.planned.Plan.{Plan}
 use Rattle.history.specs.Stacks.{AreUnseen, StopsAt, OnFull, IsPlanned}
 use Rattle.history.proofs.PlanLaws.{with-none, with-more}
 use Rattle.history.proofs.step.plan_noted.Goals as goal
@@ -14,8 +13,7 @@ returns-then-is_nothing-clause-none c =
 pub returns-then-is_nothing-clause-some : goal.returns-then-is_nothing-clause-some
 returns-then-is_nothing-clause-some c =
     subst (λ s. IfOk c.plan_back.result
-    (λ plan. IfSome plan (λ (p : Plan). IsPlanned c.args.store.now.elements c.args.time c.args.nonce s p.given
-    p.made p.passed)))
+    (λ plan. IfSome plan (IsPlanned c.args.store.now.elements c.args.stamp s)))
     (sym (with-none c.args.pending.now c.args.stack.now.items (c.is_nothing.ensures.nothing c.if-is_nothing.true)))
     c.plan_back.ensures.some
 
@@ -34,8 +32,7 @@ returns-else-is_nothing-clause-none c =
 pub returns-else-is_nothing-clause-some : goal.returns-else-is_nothing-clause-some
 returns-else-is_nothing-clause-some c =
     subst (λ s. IfOk c.plan_over.result
-    (λ plan. IfSome plan (λ (p : Plan). IsPlanned c.args.store.now.elements c.args.time c.args.nonce s p.given
-    p.made p.passed)))
+    (λ plan. IfSome plan (IsPlanned c.args.store.now.elements c.args.stamp s)))
     (sym (with-more c.args.pending.now c.args.stack.now.items (c.is_nothing.ensures.more c.if-is_nothing.false)))
     c.plan_over.ensures.some
 

@@ -11,13 +11,15 @@ use Rattle.history.specs.Steps.{IsStep, IsFull, IsLeastFull}
 use Rattle.history.proofs.StepLaws.{OnFull-weaker, least-full, next-part}
 use Rattle.history.proofs.step.planned.Goals as goal
 
-pub revert-requires-clause-id : goal.revert-requires-clause-id
-revert-requires-clause-id c =
+pub revert-requires : goal.revert-requires
+revert-requires c =
     let stored : element_of c.args.store.now.elements c.part-item.result.id ≡ Some c.unwrap-now.result.now =
     ap (λ (part : Delta). element_of c.args.store.now.elements part.id) (sym c.part.view_is) ∙ sym c.get.ensures.element
     ∙ ap option_copied c.unwrap-now.ensures in
-    same_id c.part-item.result.id c.unwrap-now.result.now
-    (find-Some (has_id c.part-item.result.id) c.args.store.now.elements c.unwrap-now.result.now stored).1
+    record {
+      id = same_id c.part-item.result.id c.unwrap-now.result.now
+          (find-Some (has_id c.part-item.result.id) c.args.store.now.elements c.unwrap-now.result.now stored).1;
+    }
 
 pub returns-in_err-revert-clause-full : goal.returns-in_err-revert-clause-full
 returns-in_err-revert-clause-full c =
@@ -54,6 +56,6 @@ loop-part-preserved c =
     ∙ ap option_copied c.unwrap-now.ensures in
     let next =
     next-part items i part within here (subst AreParts (sym c.as_slice-part-items.ensures) c.entry.invariant) in
-    subst (λ parts. IsStep parts c.args.store.now.elements c.args.time c.args.nonce c.revert.new.given.items
+    subst (λ parts. IsStep parts c.args.store.now.elements c.args.stamp.time c.args.stamp.nonce c.revert.new.given.items
     c.revert.new.made.items) (sym next.0)
     (c.in_ok-revert.ensures.ok (take i items) c.args.store.now.elements c.loop-part.invariant next.1 stored)

@@ -14,14 +14,16 @@ returns-clause-ok c parts store step rising stored =
       | in-Some+in_ok-add w ↦
           let added = w.in_ok-add.ensures in
           rw (w.given-is, w.made-is)
-          (subst₂ (IsStep (parts ++ part ∷ []) store c.args.time c.args.nonce) (sym added.given) (sym added.made.1)
-          (step-more store c.args.time c.args.nonce parts given made part c.args.now.now step rising stored w.in-Some.e
+          (subst₂ (IsStep (parts ++ part ∷ []) store c.args.stamp.time c.args.stamp.nonce) (sym added.given)
+          (sym added.made.1)
+          (step-more store c.args.stamp.time c.args.stamp.nonce parts given made part c.args.now.now step rising stored
+          w.in-Some.e
           added.made.0
-          (subst (ComesOf part c.args.now.now c.args.time c.args.nonce) w.in-Some.is c.in_ok-e.ensures.ok)
+          (subst (ComesOf part c.args.now.now c.args.stamp.time c.args.stamp.nonce) w.in-Some.is c.in_ok-e.ensures.ok)
           added.made.2))
       | in_default w ↦
           let none : c.in_ok-e.field-0 ≡ None = cc in
           rw (w.given-is, w.made-is)
-          (step-same store c.args.time c.args.nonce parts given made part c.args.now.now step rising stored
-          (subst (ComesOf part c.args.now.now c.args.time c.args.nonce) none c.in_ok-e.ensures.ok))
+          (step-same store c.args.stamp.time c.args.stamp.nonce parts given made part c.args.now.now step rising stored
+          (subst (ComesOf part c.args.now.now c.args.stamp.time c.args.stamp.nonce) none c.in_ok-e.ensures.ok))
     ]

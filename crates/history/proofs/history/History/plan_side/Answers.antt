@@ -9,10 +9,12 @@ plan_noted-requires-clause-stored c =
     subst (HaveStoredIds c.args.store.now.elements) (λ i. side (c.in-Undo.is i) (sym c.self.view_is i).stacks)
     c.requires.stored
 
-pub plan_back-requires-clause-stored : goal.plan_back-requires-clause-stored
-plan_back-requires-clause-stored c =
-    subst (HaveStoredIds c.args.store.now.elements) (λ i. side (c.in-Redo.is i) (sym c.self.view_is i).stacks)
-    c.requires.stored
+pub plan_back-requires : goal.plan_back-requires
+plan_back-requires c = record {
+  stored =
+      subst (HaveStoredIds c.args.store.now.elements) (λ i. side (c.in-Redo.is i) (sym c.self.view_is i).stacks)
+      c.requires.stored;
+}
 
 pub returns-in-Undo-clause-none : goal.returns-in-Undo-clause-none
 returns-in-Undo-clause-none c =

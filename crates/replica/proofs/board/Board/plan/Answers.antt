@@ -29,14 +29,12 @@ returns-clause-planned c =
     let history = c.in_ok-history.history in
     let pending = c.in_ok-pending.pending in
     record {
-      time = c.requires.time;
-      nonce = c.requires.nonce;
       entry = pending;
       stands = c.in_ok-pending.ensures.entry sound.snapshot_elements sound.stored_elements
           (All-nil (λ e. IsElement e × HasValidTexts e));
       fits = c.in_ok-history.ensures.fits;
       comes =
-          turn-comes c.args.direction c.args.self.now.store.elements c.args.time c.args.nonce (noted pending stacks)
+          turn-comes c.args.direction c.args.self.now.store.elements c.args.stamp (noted pending stacks)
           (put_step history stacks) c.in_ok-history.step
           (λ given is. c.in_ok-history.ensures.done history given (ap (λ (a : Step). Ok (history, a)) is))
           (λ is. c.in_ok-history.ensures.nothing.0 is)

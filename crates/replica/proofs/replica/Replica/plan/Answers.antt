@@ -15,11 +15,11 @@ returns-clause-planned c =
 pub returns-clause-step : goal.returns-clause-step
 returns-clause-step c =
     planned-answers (told c.self.inside.board) (told c.plan.new.self) c.self.inside.held c.args.self.now c.self.view_is
-    c.self.invariant.0 c.args.direction c.args.time c.args.nonce c.plan.result c.plan.ensures.planned
+    c.self.invariant.0 c.args.direction c.args.stamp c.plan.result c.plan.ensures.planned
     c.plan.ensures.call
 
 pub returns-clause-full : goal.returns-clause-full
 returns-clause-full c =
     plan-stops (told c.self.inside.board) (told c.plan.new.self) c.self.inside.held c.args.self.now c.self.view_is
-    c.self.invariant.0 c.args.direction c.args.time c.args.nonce c.requires.time c.requires.nonce c.plan.result
+    c.self.invariant.0 c.args.direction c.args.stamp c.plan.result
     c.plan.ensures.full

@@ -10,7 +10,7 @@ put_step-requires-clause-given c =
     let board = c.self.inside.board in
     let p = planned-told (told board) (told board) c.self.inside.held c.args.self.now c.self.view_is c.self.invariant.0
     c.args.plan c.requires.planned in
-    planned-gives c.args.plan.direction board.store.elements c.args.plan.time c.args.plan.nonce c.args.plan.step
+    planned-gives c.args.plan.direction board.store.elements c.args.plan.stamp c.args.plan.step
     (noted p.entry board.history.stacks) (put_step c.args.plan.history board.history.stacks) p.comes
 
 pub put_step-requires-clause-fits : goal.put_step-requires-clause-fits

@@ -9,6 +9,6 @@ pub returns-clause-after : goal.returns-clause-after
 returns-clause-after c =
     let call = c.in_ok-plan.ensures.call in
     λ (s : State) st.
-    subst (ReplicaStandsFor c.put_step.new.self) (λ i. state.after_turn (call.of_direction i) (call.of_time i)
-    (call.of_nonce i) s)
+    subst (ReplicaStandsFor c.put_step.new.self) (λ i. state.after_turn (call.of_direction i) (call.of_stamp i).time
+    (call.of_stamp i).nonce s)
     (c.in_ok-put_step.ensures.after s (subst (λ (k : Kept). ReplicaStandsFor k s) (sym c.plan.ensures.kept) st))
