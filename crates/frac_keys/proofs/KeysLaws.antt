@@ -6,7 +6,7 @@ use Rattle.std.proofs.lemmas.List.Folds.{list_all-append}
 use Rattle.frac_keys.specs.Keys.{is_key}
 use Rattle.frac_keys.specs.Between.{key_between, keys_above, keys_below, keys_inside, keys_between}
 use Rattle.frac_keys.specs.Rising.{ends_rise, is_key_or_none, lies_between, rise_between}
-use Rattle.frac_keys.proofs.OrderLaws.{IsLess-from, bytes_less-from, IsLess-trans}
+use Rattle.frac_keys.proofs.OrderLaws.{bytes_less-trans}
 use Rattle.frac_keys.proofs.BetweenLaws.{key_between-law}
 
 -- keys that rise to a key and keys that rise from it rise together
@@ -18,11 +18,11 @@ rise_between-join a b (x ∷ xs) k ys h l =
     and_from (ends_rise a (Some x)) (rise_between (Some x) b (xs ++ k ∷ ys)) p.0
     (rise_between-join (Some x) b xs k ys p.1 l)
 
-ends_rise-trans : (a : Option (List ℕ)) (k : List ℕ) (b : Option (List ℕ)) → ends_rise a (Some k) ≡ true
+pub ends_rise-trans : (a : Option (List ℕ)) (k : List ℕ) (b : Option (List ℕ)) → ends_rise a (Some k) ≡ true
     → ends_rise (Some k) b ≡ true → ends_rise a b ≡ true
 ends_rise-trans None k b h l = refl
 ends_rise-trans (Some a) k None h l = refl
-ends_rise-trans (Some a) k (Some b) h l = bytes_less-from (IsLess-trans (IsLess-from a k h) (IsLess-from k b l))
+ends_rise-trans (Some a) k (Some b) h l = bytes_less-trans a k b h l
 
 -- where keys rise from one end to another, so do the ends
 pub rise_between-ends : (a b : Option (List ℕ)) (keys : List (List ℕ)) → rise_between a b keys ≡ true
@@ -61,10 +61,11 @@ pub record AreBetween (a b : Option (List ℕ)) (n : ℕ) (keys : List (List ℕ
 none : (a b : Option (List ℕ)) → ends_rise a b ≡ true → AreBetween a b 0 []
 none a b h = record { count = refl; are_keys = refl; rise = h }
 
-joined : {a b : Option (List ℕ)} {m n : ℕ} {xs : List (List ℕ)} {k : List ℕ} {ys : List (List ℕ)} (total : ℕ)
+-- keys up to a key, the key, and keys from it on
+pub AreBetween-join : {a b : Option (List ℕ)} {m n : ℕ} {xs : List (List ℕ)} {k : List ℕ} {ys : List (List ℕ)} (total : ℕ)
     → m + n + 1 ≡ total → is_key k ≡ true
     → AreBetween a (Some k) m xs → AreBetween (Some k) b n ys → AreBetween a b total (xs ++ k ∷ ys)
-joined {a} {b} {m} {n} {xs} {k} {ys} total e key h l = record {
+AreBetween-join {a} {b} {m} {n} {xs} {k} {ys} total e key h l = record {
   count = length-append xs (k ∷ ys) ∙ omega (arith, h.count, l.count);
   are_keys = list_all-append is_key xs (k ∷ ys)
       ∙ and_from (list_all is_key xs) (list_all is_key (k ∷ ys)) h.are_keys
@@ -72,16 +73,17 @@ joined {a} {b} {m} {n} {xs} {k} {ys} total e key h l = record {
   rise = rise_between-join a b xs k ys h.rise l.rise;
 }
 
-open_above : (a : Option (List ℕ)) → ends_rise a None ≡ true
-open_above None = refl
-open_above (Some a) = refl
+-- every key is below an end that is absent
+pub ends_rise-none : (a : Option (List ℕ)) → ends_rise a None ≡ true
+ends_rise-none None = refl
+ends_rise-none (Some a) = refl
 
 keys_above-law : (a : Option (List ℕ)) (n : ℕ) → is_key_or_none a ≡ true → AreBetween a None n (keys_above a n)
 unfolding keys_above
-keys_above-law a zero h = none a None (open_above a)
+keys_above-law a zero h = none a None (ends_rise-none a)
 keys_above-law a (suc n) h =
-    let k = key_between-law a None h refl (open_above a) in
-    joined {xs = []} (suc n) (omega arith) k.key (none a (Some (key_between a None)) k.above)
+    let k = key_between-law a None h refl (ends_rise-none a) in
+    AreBetween-join {xs = []} (suc n) (omega arith) k.key (none a (Some (key_between a None)) k.above)
     (keys_above-law (Some (key_between a None)) n k.key)
 
 keys_below-law : (b : Option (List ℕ)) (n : ℕ) → is_key_or_none b ≡ true → AreBetween None b n (keys_below b n)
@@ -89,7 +91,7 @@ unfolding keys_below
 keys_below-law b zero h = none None b refl
 keys_below-law b (suc n) h =
     let k = key_between-law None b refl h refl in
-    joined {ys = []} (suc n) (omega arith) k.key (keys_below-law (Some (key_between None b)) n k.key)
+    AreBetween-join {ys = []} (suc n) (omega arith) k.key (keys_below-law (Some (key_between None b)) n k.key)
     (none (Some (key_between None b)) b k.below)
 
 keys_inside-law : (depth : ℕ) (a b : Option (List ℕ)) (n : ℕ) → n ≤ depth → is_key_or_none a ≡ true
@@ -106,7 +108,7 @@ keys_inside-law (suc depth) a b n most h l e =
     (λ t. subst (λ m. AreBetween a b m []) (sym (eqb-true n 0 t)) (none a b e))
     (λ f.
     let some : 0 < n = grind (arith, eqb-false n 0 f) in
-    joined n (omega arith) k.key
+    AreBetween-join n (omega arith) k.key
     (keys_inside-law depth a c (n / 2) (omega arith) h k.key k.above)
     (keys_inside-law depth c b upper (omega arith) k.key l k.below))
 
