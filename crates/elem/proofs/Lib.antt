@@ -6,10 +6,10 @@ pub mod KeyTexts
 mod Headers
 pub mod Kept
 mod Leaving
-mod Merging
+pub mod Merging
 pub mod OrderLaws
 mod Rows
 pub mod Saying
 pub mod Sorting
-mod TellingLaws
+pub mod TellingLaws
 pub mod CallerLemmas

@@ -10,3 +10,4 @@ pub use Rattle.scene_json.proofs.Lookups.{less_turned, rising_distinct, rising_f
 pub use Rattle.scene_json.proofs.Lookups.{rising_parts, rising_same, same_moved, value_at-below, value_at-found}
 pub use Rattle.scene_json.proofs.Rising.{tabled}
 pub use Rattle.scene_json.proofs.Appended.{array-closed, mapped-compact, mapped-step}
+pub use Rattle.scene_json.proofs.Quotes.{quote-once, quotes-compact, quotes-once}
