@@ -5,7 +5,6 @@ use Rattle.board_base.specs.declared.stop.Stop.TheVariants.{Fault}
 use Rattle.json_text.specs.Characters.{quote}
 use Rattle.json_text.specs.Compact.{Member as Pair}
 use Rattle.scene_json.specs.Named.{value_at}
-use Rattle.elem.proofs.CallerLemmas.{literal}
 use Rattle.elem_read.proofs.CallerLemmas.{stopped}
 use Rattle.scene_file.specs.Reading.{value_unless_null, HasMembers}
 use Rattle.elem.specs.ElementValue.{ElementValue}
@@ -14,10 +13,11 @@ use Rattle.clips.specs.Placed.{elements_in}
 use Rattle.clips.specs.declared.placed.Placed.{Placed}
 use Rattle.clips.specs.declared.fault.ClipFault.{ClipFault}
 use Rattle.clips.specs.declared.fault.ClipFault.TheVariants.{NotObject, NotClip, Elements, Files, Element, Repeated}
+use Rattle.json_text.proofs.CallerLemmas.{ascii-utf8}
 
 pub is-clipboard : (members : List Pair) → value_at (codes "type") members ≡ Some (quote (codes "excalidraw/clipboard"))
     → IsClipboard members
-is-clipboard members kind = (literal (codes "excalidraw/clipboard") refl, kind)
+is-clipboard members kind = (ascii-utf8 (codes "excalidraw/clipboard") refl, kind)
 
 pub fault-same : (A : Type 0) (a b : ClipFault) → stopped A (Fault a) ≡ stopped A (Fault b) → a ≡ b
 fault-same A a b e = cc

@@ -6,7 +6,7 @@ use Rattle.json_text.specs.Characters.{quote}
 use Rattle.json_text.specs.Compact.{Member as Pair}
 use Rattle.scene_json.specs.Named.{value_at}
 use Rattle.elem.specs.ElementValue.{ElementValue}
-use Rattle.elem.proofs.CallerLemmas.{object-once, quote-once}
+use Rattle.elem.proofs.CallerLemmas.{object-once}
 use Rattle.elem_store.specs.Updates.{AreBest}
 use Rattle.elem_store.proofs.CallerLemmas.{store-unique, stores-converge, AreStored-from_best}
 use Rattle.file_table.specs.Picture.{HasData, HasUrl, IsDataUrl, IsPictureSize}
@@ -37,6 +37,7 @@ use Rattle.commands.proofs.PasteOnce.{pasted-once}
 use Rattle.commands.proofs.ShelfOnce.{shelf-once}
 use Rattle.commands.proofs.InsertOnce.{inserted-once}
 use Rattle.commands.proofs.Inputs.{input-once, faulty-once, faulty-scenes, extra-scene, extra-once}
+use Rattle.scene_json.proofs.CallerLemmas.{quote-once}
 
 -- ---- the board of scenes
 stored-once : {scenes : List Scene} {head other : Heading} {stored news : List ElementValue}

@@ -8,8 +8,8 @@ use Rattle.std.proofs.lemmas.Bool.{cases_Bool, false≢true, and_parts, and_from
 use Rattle.json_text.proofs.CallerLemmas.{bytes_eq-true, bytes_eq-same, bytes_eq-apart}
 use Rattle.frac_keys.specs.Keys.{bytes_less}
 use Rattle.frac_keys.specs.Rising.{ends_rise, rise_between, are_rising}
-use Rattle.elem.proofs.CallerLemmas.{bytes_less-trans, bytes_less-same, bytes_less-asym, bytes_less-turned}
 use Rattle.delta.specs.Placed.{item_of, with_item}
+use Rattle.frac_keys.proofs.CallerLemmas.{bytes_less-trans, bytes_less_itself, bytes_less-asym, bytes_less-turned}
 
 none-some : {X : Type 0} (x : X) → None ≡ Some x → ⊥
 none-some x e = cc
@@ -19,10 +19,10 @@ some-same x y e = cc
 
 -- a lesser id is another one
 less-apart : (a b : List ℕ) → bytes_less a b ≡ true → bytes_eq a b ≡ false
-less-apart a b l = bytes_eq-apart a b (λ e. false≢true (sym (bytes_less-same a) ∙ ap (bytes_less a) e ∙ l))
+less-apart a b l = bytes_eq-apart a b (λ e. false≢true (sym (bytes_less_itself a) ∙ ap (bytes_less a) e ∙ l))
 
 more-apart : (a b : List ℕ) → bytes_less b a ≡ true → bytes_eq a b ≡ false
-more-apart a b l = bytes_eq-apart a b (λ e. false≢true (sym (bytes_less-same a) ∙ ap (λ k. bytes_less k a) e ∙ l))
+more-apart a b l = bytes_eq-apart a b (λ e. false≢true (sym (bytes_less_itself a) ∙ ap (λ k. bytes_less k a) e ∙ l))
 
 module _ {X : Type 0} (id_of : X → List ℕ) where
   -- what stands behind an end rises from any lesser one

@@ -13,10 +13,11 @@ use Rattle.scene_json.proofs.CallerLemmas.{names-pairs}
 use Rattle.frac_keys.specs.Keys.{bytes_less}
 use Rattle.frac_keys.specs.Rising.{are_rising}
 use Rattle.elem.specs.Facts.{names}
-use Rattle.elem.proofs.CallerLemmas.{IsRising, IsRising-from, are_rising-from, AllByRecursion-weaker, bytes_less-trans, bytes_less-same, bytes_less-asym, bytes_less-turned}
+use Rattle.elem.proofs.CallerLemmas.{IsRising, IsRising-from, are_rising-from, AllByRecursion-weaker}
 use Rattle.elem.specs.Texts.{with_member, sorted_members}
 use Rattle.delta.specs.Headers.{value_named}
 use Rattle.delta.specs.Rest.{value_if, made, without_first, with_value}
+use Rattle.frac_keys.proofs.CallerLemmas.{bytes_less-trans, bytes_less_itself, bytes_less-asym, bytes_less-turned}
 
 -- names that rise, by recursion
 pub risen : (ms : List Member) → are_rising (names ms) ≡ true → IsRising (pairs ms)
@@ -83,7 +84,7 @@ none_below : (name : List ℕ) (ms : List Member) → AllByRecursion (λ (n : Pa
 none_below name [] above = refl
 none_below name (m ∷ ms) above =
     ap (λ b. if b then Some m.value else value_named name ms)
-    (bytes_eq-apart name m.name (λ e. false≢true (sym (bytes_less-same name) ∙ ap (bytes_less name) e ∙ above.0)))
+    (bytes_eq-apart name m.name (λ e. false≢true (sym (bytes_less_itself name) ∙ ap (bytes_less name) e ∙ above.0)))
     ∙ none_below name ms above.1
 
 -- ---- the member at the place where a name belongs
@@ -123,7 +124,7 @@ value-at name (m ∷ ms) zero rise before behind =
 value-at name (m ∷ ms) (suc i) rise before behind =
     value-at name ms i rise.1 (λ k d l. before (suc k) d (omega arith)) behind
     ∙ sym (ap (λ b. if b then Some m.value else value_named name ms)
-    (bytes_eq-apart name m.name (λ e. false≢true (sym (bytes_less-same name)
+    (bytes_eq-apart name m.name (λ e. false≢true (sym (bytes_less_itself name)
     ∙ sym (ap (λ n. bytes_less n name) (sym e)) ∙ before 0 m (omega arith)))))
 
 -- ---- what a change of one member makes of all
@@ -221,7 +222,7 @@ named-with_value n name value (m ∷ ms) rise =
       | true ↦ λ less.
           ap (λ v. if bytes_eq n m.name then Some m.value else v) (named-with_value n name value ms rise.1)
           ∙ swapped (bytes_eq n m.name) (bytes_eq n name)
-          (λ t. bytes_eq-apart n name (λ e. false≢true (sym (bytes_less-same name)
+          (λ t. bytes_eq-apart n name (λ e. false≢true (sym (bytes_less_itself name)
           ∙ ap (λ k. bytes_less k name) (sym e ∙ bytes_eq-true n m.name t) ∙ less)))
       | false ↦ λ more.
           elim (bytes_eq name m.name) as (λ b. bytes_eq name m.name ≡ b
@@ -269,7 +270,7 @@ apart : (name : List ℕ) (ms : List Member) → AllByRecursion (λ (n : Pair). 
     → AllByRecursion (λ n. bytes_eq name n ≡ false) (names ms)
 apart name [] h = tt
 apart name (m ∷ ms) h = (
-  bytes_eq-apart name m.name (λ e. false≢true (sym (bytes_less-same name) ∙ ap (bytes_less name) e ∙ h.0)),
+  bytes_eq-apart name m.name (λ e. false≢true (sym (bytes_less_itself name) ∙ ap (bytes_less name) e ∙ h.0)),
   apart name ms h.1,
 )
 
@@ -311,7 +312,7 @@ sorted-with_value name value ms rise free =
 -- a member that was put can be taken away again
 pub with_value-back : (name value : List ℕ) (ms : List Member) → list_any (bytes_eq name) (names ms) ≡ false
     → with_value name None (with_value name (Some value) ms) ≡ ms
-with_value-back name value [] free = rw (bytes_less-same name, bytes_eq-same name) refl
+with_value-back name value [] free = rw (bytes_less_itself name, bytes_eq-same name) refl
 with_value-back name value (m ∷ ms) free =
     let parts = or_parts (bytes_eq name m.name) (list_any (bytes_eq name) (names ms)) free in
     let new : Member = record { name = name; value = value } in
@@ -325,7 +326,7 @@ with_value-back name value (m ∷ ms) free =
       | false ↦ λ more.
           ap (λ b. with_value name None (new ∷ (if b then ms else m ∷ ms))) parts.0
           ∙ ap (λ b. if b then new ∷ with_value name None (m ∷ ms) else without_first name (new ∷ m ∷ ms))
-          (bytes_less-same name)
+          (bytes_less_itself name)
           ∙ ap (λ b. if b then m ∷ ms else new ∷ m ∷ ms) (bytes_eq-same name)
     ] refl
 

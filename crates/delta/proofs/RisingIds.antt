@@ -5,8 +5,7 @@ use Rattle.std.proofs.lemmas.List.{map-append}
 use Rattle.std.proofs.lemmas.List.Elements.{Contains-append_right}
 use Rattle.frac_keys.specs.Keys.{bytes_less}
 use Rattle.frac_keys.specs.Rising.{ends_rise, rise_between, are_rising}
-use Rattle.frac_keys.proofs.CallerLemmas.{rise_between-join}
-use Rattle.elem.proofs.CallerLemmas.{bytes_less-trans}
+use Rattle.frac_keys.proofs.CallerLemmas.{rise_between-join, bytes_less-trans}
 
 -- what a list with an image of each of its items has
 pub Contains-map : {X Y : Type 0} (f : X → Y) (xs : List X) (y : Y) → Contains (map f xs) y → (x : X) × Contains xs x

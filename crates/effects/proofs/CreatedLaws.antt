@@ -6,19 +6,18 @@ use Rattle.std.specs.List.{AllByRecursion, IsDistinct}
 use Rattle.std.specs.Option.{option_map}
 use Rattle.std.proofs.lemmas.Bool.{cases_Bool, false≢true, and_parts, and_from}
 use Rattle.std.proofs.lemmas.Option.{none-some}
-use Rattle.json_text.proofs.CallerLemmas.{bytes_eq-true}
+use Rattle.json_text.proofs.CallerLemmas.{bytes_eq-true, Contains-map, Contains-to_map}
 use Rattle.frac_keys.specs.Keys.{bytes_less}
 use Rattle.frac_keys.specs.Rising.{ends_rise, rise_between, are_rising}
 use Rattle.elem.specs.ElementValue.{ElementValue}
 use Rattle.elem.specs.Order.{has_id, HaveDistinctIds}
-use Rattle.elem.proofs.CallerLemmas.{bytes_less-turned}
 use Rattle.elem_store.specs.Updates.{element_of, ids_of}
 use Rattle.elem_store.proofs.CallerLemmas.{Contains-head, Contains-cons, Contains-cases, filter-Contains, find-None, is_some-find, list_any-false}
 use Rattle.index_repair.specs.Keyed.{keyed, with_index}
 use Rattle.view.specs.Shown.{is_live, with_element}
 use Rattle.copies.specs.Copies as copying
 use Rattle.copies.specs.Copies.{copies_of}
-use Rattle.copies.proofs.CallerLemmas.{Contains-map, copy-id, map-Contains, original}
+use Rattle.copies.proofs.CallerLemmas.{copy-id, original}
 use Rattle.board_commands.specs.declared.command.Command.{Command}
 use Rattle.board_commands.specs.declared.command.Command.TheVariants as commands
 use Rattle.board_commands.specs.declared.command.Spot.{Spot}
@@ -28,6 +27,7 @@ use Rattle.effects.specs.Changed.{created, created_at, with_created, with_new}
 use Rattle.effects.specs.Copying.{as_new, copies_at, shown_among}
 use Rattle.effects.specs.Naming.{is_among}
 use Rattle.effects.specs.Refusals.{existing, first_stored, refusal_if}
+use Rattle.frac_keys.proofs.CallerLemmas.{bytes_less-turned}
 
 pub some-or-none : {X : Type 0} (o : Option X) → (o ≡ None) ⊎ ((x : X) × (o ≡ Some x))
 some-or-none None = inl refl
@@ -208,7 +208,7 @@ pub record IsCopyAt (list : List ElementValue) (prefix : List ℕ) (time nonce :
 pub copy-from : (shown list : List ElementValue) (prefix : List ℕ) (spot : Spot) (time nonce : ℕ) (e : ElementValue)
     → Contains (copies_at shown list prefix spot time nonce) e → IsCopyAt list prefix time nonce e
 copy-from shown list prefix spot time nonce e c =
-    let new = map-Contains (as_new time nonce) _ e c in
+    let new = Contains-map (as_new time nonce) _ e c in
     let placed = keyed-from (copies_of list prefix) _ new.0 new.1 in
     let from = original list prefix placed.0 placed.2 in
     record {
@@ -270,7 +270,7 @@ module _ (stored shown : List ElementValue) (time nonce : ℕ) where
   created-unknown (commands.Paste elements prefix spot) e free c =
       let copy = copy-from shown elements prefix spot time nonce e c in
       copied-unknown elements prefix (ids_of elements) e free copy
-      (Contains-map (λ (d : ElementValue). d.id) elements copy.old copy.among)
+      (Contains-to_map (λ (d : ElementValue). d.id) elements copy.old copy.among)
   created-unknown command e free c = absurd (omega (arith, c.1))
 
   pub created-fresh : (command : Command) (e : ElementValue) → Contains (created shown command time nonce) e

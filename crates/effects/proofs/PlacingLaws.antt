@@ -12,7 +12,6 @@ use Rattle.std.proofs.lemmas.Option.{none-some, same_Some}
 use Rattle.json_text.proofs.CallerLemmas.{bytes_eq-same, bytes_eq-true}
 use Rattle.frac_keys.specs.Rising.{ends_rise, rise_between}
 use Rattle.elem.specs.ElementValue.{ElementValue}
-use Rattle.elem.proofs.CallerLemmas.{bytes_less-trans}
 use Rattle.elem.specs.Order.{has_id, HaveDistinctIds}
 use Rattle.elem_store.specs.Updates.{element_of, ids_of}
 use Rattle.index_repair.specs.Keyed.{index_of, HaveRisingKeys}
@@ -20,6 +19,7 @@ use Rattle.links.specs.Names.{is_id}
 use Rattle.effects.specs.Placing.{is_of, others, first_key, gap_above, last_key, last_key_or}
 use Rattle.effects.specs.Prepared.{HasKeys, elements_among}
 use Rattle.effects.proofs.FirstLaws.{first-append}
+use Rattle.frac_keys.proofs.CallerLemmas.{bytes_less-trans}
 
 -- each element has a key, and that is greater than the one before
 abbrev pub Rises : Option (List ℕ) → List ElementValue → Type 0

@@ -11,7 +11,7 @@ use Rattle.std.proofs.lemmas.List.Sorted.{Contains-permutation, IsPermutation-sy
 use Rattle.std.proofs.lemmas.Option.{none-some}
 use Rattle.elem.specs.ElementValue.{ElementValue}
 use Rattle.elem.specs.Order.{has_id, HaveDistinctIds}
-use Rattle.elem.proofs.CallerLemmas.{AllByRecursion-append, bytes_less-turned}
+use Rattle.elem.proofs.CallerLemmas.{AllByRecursion-append}
 use Rattle.frac_keys.specs.Keys.{bytes_less}
 use Rattle.frac_keys.specs.Rising.{are_rising, rise_between}
 use Rattle.elem_store.specs.Updates.{element_of, ids_of}
@@ -19,6 +19,7 @@ use Rattle.elem_store.proofs.CallerLemmas.{Contains-cons, Contains-head, find-So
 use Rattle.view.proofs.CallerLemmas.{HaveDistinctIds-permuted, HaveDistinctIds-rising}
 use Rattle.effects.specs.Changed.{with_created}
 use Rattle.effects.proofs.CreatedLaws.{AreApart, absent-parts, some-or-none, created-cases, created-kept, created-rises, created-there}
+use Rattle.frac_keys.proofs.CallerLemmas.{bytes_less-turned}
 
 abbrev pub lower : ElementValue → ElementValue → Bool
 lower e other = is_lt (slice_cmp nat_cmp e.id other.id)

@@ -15,5 +15,4 @@ pub use Rattle.elem.proofs.Saying.{text-of-one}
 pub use Rattle.elem.proofs.Sorting.{AllByRecursion-map, AllByRecursion-sorted, AllByRecursion-weaker}
 pub use Rattle.elem.proofs.Sorting.{IsPermutation-sorted, IsRising, IsRising-from, IsRising-sorted, are_rising-from}
 pub use Rattle.elem.proofs.Sorting.{same_rising}
-pub use Rattle.elem.proofs.Merging.{nest-pairs}
 pub use Rattle.elem.proofs.TellingLaws.{names-each}

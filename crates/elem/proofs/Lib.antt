@@ -6,7 +6,7 @@ pub mod KeyTexts
 mod Headers
 pub mod Kept
 mod Leaving
-pub mod Merging
+mod Merging
 pub mod OrderLaws
 mod Rows
 pub mod Saying

@@ -298,11 +298,6 @@ pub merging-from : (limit : ℕ) (before : List ℕ) (hs : List Pair) (rest : Li
 merging-from limit before hs rest nest =
     record { written = []; begun = sym (append-nil before); left = refl; sound = tt; nest = nest }
 
-pub nest-pairs : (limit : ℕ) (ms : List Member) → AllByRecursion (λ (m : Member). IsCompact limit m.value) ms
-    → AllByRecursion (λ (m : Pair). IsCompact limit m.1) (pairs ms)
-nest-pairs limit [] h = tt
-nest-pairs limit (m ∷ ms) h = (h.0, nest-pairs limit ms h.1)
-
 both : (limit : ℕ) (ms : List Member) → AllByRecursion (λ (m : Member). IsUtf8 m.name) ms
     → AllByRecursion (λ (m : Pair). IsCompact limit m.1) (pairs ms) → AreSound limit (pairs ms)
 both limit [] named nest = tt

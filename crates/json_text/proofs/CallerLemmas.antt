@@ -19,3 +19,4 @@ pub use Rattle.json_text.proofs.Forms.{nests-or-not, object-or-not, object-start
 pub use Rattle.json_text.proofs.Forms.{starts-same, string-or-not}
 pub use Rattle.json_text.proofs.FirstLaws.{Contains-first_texts, IsDistinct-filter, IsDistinct-first_texts}
 pub use Rattle.json_text.proofs.FirstLaws.{any-first_texts, first_texts-distinct}
+pub use Rattle.json_text.proofs.Lists.{Contains-map, Contains-to_map}

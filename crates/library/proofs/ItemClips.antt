@@ -7,11 +7,10 @@ use Rattle.std.proofs.lemmas.Map.Made.{IsDistinct-from_count}
 use Rattle.json_text.specs.Characters.{quote}
 use Rattle.json_text.specs.Compact.{array_text}
 use Rattle.json_text.specs.Tree.{null_word}
-use Rattle.json_text.proofs.CallerLemmas.{Value-deeper, quote-compact}
+use Rattle.json_text.proofs.CallerLemmas.{Value-deeper, quote-compact, ascii-utf8}
 use Rattle.elem.specs.ElementValue.{ElementValue}
 use Rattle.elem.specs.Order.{HaveDistinctIds}
 use Rattle.elem.specs.Texts.{element_text}
-use Rattle.elem.proofs.CallerLemmas.{literal}
 use Rattle.scene_file.specs.Reading.{HasItems}
 use Rattle.clips.specs.Clips.{live_in, IsClipOf}
 use Rattle.clips.specs.Placed.{elements_in}
@@ -72,16 +71,16 @@ item-clip item whole =
       members = members;
       object = record {
         are_members = record {
-          named = (literal (codes "type") refl, (literal (codes "elements") refl, tt));
+          named = (ascii-utf8 (codes "type") refl, (ascii-utf8 (codes "elements") refl, tt));
           valued = (
-            quote-compact 127 (codes "excalidraw/clipboard") (literal (codes "excalidraw/clipboard") refl),
+            quote-compact 127 (codes "excalidraw/clipboard") (ascii-utf8 (codes "excalidraw/clipboard") refl),
             (Value-deeper (lit≤ tt) (elements-compact item.elements sound.whole), tt),
           );
           distinct = IsDistinct-from_count nat_list_eq_equiv _ refl;
         };
         spelled = refl;
       };
-      kind = (literal (codes "excalidraw/clipboard") refl, refl);
+      kind = (ascii-utf8 (codes "excalidraw/clipboard") refl, refl);
       values = texts;
       items = items-given texts (array.0, refl);
       files = refl;

@@ -5,10 +5,10 @@ use Rattle.std.proofs.lemmas.Option.{same_Some}
 use Rattle.json_text.specs.Characters.{quote}
 use Rattle.json_text.specs.Compact.{array_text}
 use Rattle.json_text.specs.Tree.{null_word}
-use Rattle.json_text.proofs.CallerLemmas.{array-or-not, bytes_eq-same, bytes_eq-true}
+use Rattle.json_text.proofs.CallerLemmas.{array-or-not, bytes_eq-same, bytes_eq-true, ascii-utf8}
 use Rattle.scene_json.proofs.CallerLemmas.{digit_of_decimal}
 use Rattle.elem.specs.Forms.{IsId, IsNull, IsText, IsTextOrNull, IsWholeNumber}
-use Rattle.elem.proofs.CallerLemmas.{array-once, literal, null-no-text, text-once, whole-once}
+use Rattle.elem.proofs.CallerLemmas.{array-once, null-no-text, text-once, whole-once}
 use Rattle.elem_read.proofs.CallerLemmas.{Decided, Fits, text-or-not, whole-or-not}
 use Rattle.clips.proofs.CallerLemmas.{is-text}
 use Rattle.library.specs.Items.{status_word}
@@ -17,8 +17,8 @@ use Rattle.library.specs.Reading.{IsArray, IsStatus, IsTime}
 -- ---- one thing alone
 word-text : (found : Option (List ℕ)) (published : Bool) → found ≡ Some (quote (status_word published))
     → IsText found (status_word published)
-word-text found true e = (literal (codes "published") refl, e)
-word-text found false e = (literal (codes "unpublished") refl, e)
+word-text found true e = (ascii-utf8 (codes "published") refl, e)
+word-text found false e = (ascii-utf8 (codes "unpublished") refl, e)
 
 no-both : (found : Option (List ℕ)) → found ≡ Some (quote (status_word true)) → IsStatus found false → ⊥
 no-both found e (inl null) = null-no-text found (status_word true) null (word-text found true e)

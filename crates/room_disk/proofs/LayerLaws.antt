@@ -5,9 +5,8 @@ use Rattle.std.proofs.lemmas.Bool.{and_parts}
 use Rattle.frac_keys.specs.Between.{key_between}
 use Rattle.frac_keys.specs.Keys.{bytes_less}
 use Rattle.frac_keys.specs.Rising.{are_rising, ends_rise, is_key_or_none, rise_between}
-use Rattle.frac_keys.proofs.CallerLemmas.{key_between-law}
+use Rattle.frac_keys.proofs.CallerLemmas.{key_between-law, bytes_less-asym, bytes_less-trans}
 use Rattle.elem.specs.ElementValue.{ElementValue}
-use Rattle.elem.proofs.CallerLemmas.{bytes_less-asym, bytes_less-trans}
 use Rattle.elem_store.specs.Updates.{ids_of}
 use Rattle.elem_store.proofs.CallerLemmas.{Contains-cons, Contains-head, above}
 use Rattle.index_repair.specs.Keyed.{HaveKeysOrNone}

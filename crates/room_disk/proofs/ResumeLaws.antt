@@ -5,13 +5,12 @@ use Rattle.std.proofs.lemmas.Bool.{and_from, and_parts, cases_Bool, cond-true, c
 use Rattle.frac_keys.specs.Between.{key_between, keys_above, keys_between}
 use Rattle.frac_keys.specs.Keys.{bytes_less}
 use Rattle.frac_keys.specs.Rising.{ends_rise, is_key_or_none, rise_between, are_rising}
-use Rattle.frac_keys.proofs.CallerLemmas.{key_between-law, keys_between-law}
+use Rattle.frac_keys.proofs.CallerLemmas.{key_between-law, keys_between-law, bytes_less-trans, bytes_less-turned}
 use Rattle.std.proofs.lemmas.List.Elements.{All-nil, All-cons, All-head, All-tail}
 use Rattle.elem.specs.ElementValue.{ElementValue}
 use Rattle.elem_read.specs.Reading.{IsWholeElement}
 use Rattle.elem_read.proofs.CallerLemmas.{IsSound}
 use Rattle.scene_file.proofs.CallerLemmas.{AreSound, sound-with, sounds-whole, wholes-sound, keys-or-none}
-use Rattle.elem.proofs.CallerLemmas.{bytes_less-trans, bytes_less-turned}
 use Rattle.json_text.proofs.CallerLemmas.{bytes_eq-true}
 use Rattle.elem_store.specs.Stock.{Held}
 use Rattle.elem_store.specs.Updates.{ids_of, AreStored}

@@ -12,12 +12,12 @@ use Rattle.json_text.specs.Tree.{IsNumber, null_word, scalar, spelling}
 use Rattle.json_text.specs.Value.{Value, IsCompact, Follows}
 use Rattle.scene_json.specs.Layout.{laid_out}
 use Rattle.scene_json.specs.Named.{AreSameMembers, HaveRisingNames}
-use Rattle.json_text.proofs.CallerLemmas.{Value-deeper, quote-compact, literal-compact, object-compact, object-starts, number-Head, head-apart}
+use Rattle.json_text.proofs.CallerLemmas.{Value-deeper, quote-compact, literal-compact, object-compact, object-starts, number-Head, head-apart, ascii-utf8}
 use Rattle.scene_json.proofs.CallerLemmas.{laid-Value}
 use Rattle.elem.specs.ElementValue.{ElementValue}
 use Rattle.elem.specs.Forms.{IsObject}
 use Rattle.elem.specs.Texts.{element_text, text_or_null}
-use Rattle.elem.proofs.CallerLemmas.{null-no-text, literal, AreMembers-deeper}
+use Rattle.elem.proofs.CallerLemmas.{null-no-text, AreMembers-deeper}
 use Rattle.elem_read.specs.Elements.{AreRead}
 use Rattle.elem_read.specs.Reading.{IsWholeElement}
 use Rattle.file_table.specs.References.{referred_files}
@@ -104,7 +104,7 @@ module _ (head : Heading) (elements : List ElementValue) (files : List Pair) (wh
   scene-said kept keys rise same = record {
     members = scene_members head elements files;
     object = record { are_members = members-are; spelled = refl };
-    kind = (literal (codes "excalidraw") refl, refl);
+    kind = (ascii-utf8 (codes "excalidraw") refl, refl);
     head = record {
       source = source-read head.source whole.source;
       settings = pairs head.app_state;

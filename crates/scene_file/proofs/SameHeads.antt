@@ -7,12 +7,13 @@ use Rattle.std.proofs.lemmas.List.Elements.{All-contains}
 use Rattle.json_text.specs.Characters.{quote}
 use Rattle.json_text.specs.Members.{pairs}
 use Rattle.frac_keys.specs.Keys.{bytes_less}
-use Rattle.elem.proofs.CallerLemmas.{quote-once, bytes-neither, bytes-below, bytes_less-same, bytes_less-asym}
 use Rattle.elem_store.proofs.CallerLemmas.{Contains-head, Contains-cons, Contains-cases}
 use Rattle.file_table.proofs.CallerLemmas.{AreLeastEntries-moved}
 use Rattle.scene_file.specs.Heads.{Heading, lesser_source, least_source, settings_of, files_of, IsJoinedHead, IsLeastSource, HaveSameHeads}
 use Rattle.scene_file.specs.Whole.{IsWholeHead}
 use Rattle.scene_file.proofs.WholeScenes.{least-whole}
+use Rattle.frac_keys.proofs.CallerLemmas.{bytes-neither, bytes-below, bytes_less_itself, bytes_less-asym}
+use Rattle.scene_json.proofs.CallerLemmas.{quote-once}
 
 -- ---- lists that are joined
 in-left : {X : Type 0} (xs ys : List X) (y : X) → Contains xs y → Contains (xs ++ ys) y
@@ -98,7 +99,7 @@ least-is (first ∷ heads) source h = go (least-is heads) first.source (least_so
       least = λ head other c from. elim (Contains-cases first heads head c) [
         | inl e ↦
             let one : other ≡ a = same_Some (sym from ∙ ap (λ (x : Heading). x.source) (sym e) ∙ own) in
-            subst (λ t. bytes_less (quote t) (quote a) ≡ false) (sym one) (bytes_less-same (quote a))
+            subst (λ t. bytes_less (quote t) (quote a) ≡ false) (sym one) (bytes_less_itself (quote a))
         | inr later ↦ above head other later from
       ];
     })

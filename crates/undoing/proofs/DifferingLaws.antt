@@ -10,7 +10,7 @@ use Rattle.elem.specs.Facts.{IsKind, IsElement}
 use Rattle.elem.specs.Order.{unstamped, has_id}
 use Rattle.elem.specs.Said.{HasValidTexts, AreElements}
 use Rattle.elem.specs.Texts.{kind_name, element_text}
-use Rattle.elem.proofs.CallerLemmas.{kind_of_name-once, text-of-one, bytes_less-trans, element_with_stamp, texts_with_stamp, element_with_deleted, texts_with_deleted}
+use Rattle.elem.proofs.CallerLemmas.{kind_of_name-once, text-of-one, element_with_stamp, texts_with_stamp, element_with_deleted, texts_with_deleted}
 use Rattle.elem_store.specs.Updates.{element_of, ids_of}
 use Rattle.elem_store.proofs.CallerLemmas.{same_id, Contains-filter, filter-Contains, find-Some}
 use Rattle.delta.specs.Delta.{Delta}
@@ -19,6 +19,7 @@ use Rattle.delta.specs.Parts.{counted}
 use Rattle.delta.proofs.CallerLemmas.{Contains-map}
 use Rattle.undoing.specs.Differing.{same_kind, differ, is_changed, pending}
 use Rattle.undoing.specs.Entries.{IsOfElements, pair_ids, IsEntry}
+use Rattle.frac_keys.proofs.CallerLemmas.{bytes_less-trans}
 
 -- ---- kinds
 pub same_kind-same : (kind : Kind) → same_kind kind kind ≡ true

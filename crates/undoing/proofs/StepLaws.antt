@@ -11,7 +11,7 @@ use Rattle.elem.specs.ElementValue.{ElementValue}
 use Rattle.elem.specs.Facts.{IsElement, greatest_whole}
 use Rattle.elem.specs.Order.{unstamped}
 use Rattle.elem.specs.Said.{HasValidTexts, AreElements}
-use Rattle.elem.proofs.CallerLemmas.{bytes_less-same, bytes_less-asym, element_with_stamp, texts_with_stamp}
+use Rattle.elem.proofs.CallerLemmas.{element_with_stamp, texts_with_stamp}
 use Rattle.elem_store.specs.Updates.{element_of, ids_of, is_taken, is_newer}
 use Rattle.elem_store.proofs.CallerLemmas.{Contains-head, Contains-cons, Contains-cases, find-Some, is_some-find, list_any-false}
 use Rattle.delta.specs.Pairs.{Pair, IsChanged, pair_with, exchanged}
@@ -22,6 +22,7 @@ use Rattle.undoing.specs.Steps.{Reverted, reverted, changes, is_full, is_seen, s
 use Rattle.undoing.specs.Undoing.{undone}
 use Rattle.undoing.proofs.DifferingLaws.{differ-true, found-is, rise-lower, ids-from}
 use Rattle.undoing.proofs.UndoneLaws.{undone-stamp, undone-element}
+use Rattle.frac_keys.proofs.CallerLemmas.{bytes_less_itself, bytes_less-asym}
 
 -- ---- what a function gives of the items of a list
 module _ {X Y : Type 0} (h : X → Option Y) where
@@ -166,7 +167,7 @@ module _ {X : Type 0} (id_of : X → List ℕ) (p : X → Bool) where
     | inl t ↦
         let here : z ≡ x = same_Some z x (sym (cond-true (p z) (Some z) (find p xs) t) ∙ found) in
         subst (λ w. bytes_less (id_of y) (id_of w) ≡ false) here (elim (Contains-cases z xs y c) [
-          | inl same ↦ subst (λ w. bytes_less (id_of w) (id_of z) ≡ false) same (bytes_less-same (id_of z))
+          | inl same ↦ subst (λ w. bytes_less (id_of w) (id_of z) ≡ false) same (bytes_less_itself (id_of z))
           | inr later ↦ bytes_less-asym (id_of z) (id_of y) (later_greater id_of [] z xs y rise later)
         ])
     | inr f ↦ elim (Contains-cases z xs y c) [
