@@ -1,5 +1,5 @@
 -- Members in the order of their names: where a name belongs, and what a change of one member makes of them.
-use Rattle.std.proofs.Common.{◌≡◌, ℕ, zero, suc, ◌+◌, ◌<◌, ◌≤◌, Bool, true, false, List, [], ◌∷◌, ◌++◌, ◌||◌, length, get_or, take, drop, Option, Some, None, All, slice_get, if◌then◌else◌, bytes_eq, inl, inr, refl, sym, ap, ◌∙◌, subst, length-take, length-drop, arith}
+use Rattle.std.proofs.Common.{◌≡◌, ℕ, zero, suc, ◌+◌, ◌<◌, ◌≤◌, Bool, true, false, List, [], ◌∷◌, ◌++◌, length, get_or, take, drop, Option, Some, None, All, slice_get, if◌then◌else◌, bytes_eq, inl, inr, refl, sym, ap, ◌∙◌, subst, length-take, length-drop, arith}
 use Rattle.std.specs.List.{AllByRecursion, IsDistinct, list_any}
 use Rattle.std.specs.Option.{option_map_or, option_and_then}
 use Rattle.std.specs.List.Sorted.{IsPartitionedBy, IsPartitionPoint}
@@ -9,7 +9,7 @@ use Rattle.json_text.specs.Members.{pairs}
 use Rattle.json_text.specs.Compact.{Member as Pair}
 use Rattle.json_text.specs.declared.text.Member.{Member}
 use Rattle.json_text.proofs.CallerLemmas.{bytes_eq-true, bytes_eq-same, bytes_eq-apart}
-use Rattle.scene_json.proofs.CallerLemmas.{names-pairs}
+use Rattle.scene_json.proofs.CallerLemmas.{names-pairs, pairs-each}
 use Rattle.frac_keys.specs.Keys.{bytes_less}
 use Rattle.frac_keys.specs.Rising.{are_rising}
 use Rattle.elem.specs.Facts.{names}
@@ -147,11 +147,6 @@ each-with_value P name value (m ∷ ms) new all =
     joined None new xs h = h
     joined (Some v) new xs h = (new.0, h)
 
-pairs-each : (P : Pair → Type 0) (ms : List Member) → AllByRecursion (λ (m : Member). P (m.name, m.value)) ms
-    → AllByRecursion P (pairs ms)
-pairs-each P [] h = tt
-pairs-each P (m ∷ ms) h = (h.0, pairs-each P ms h.1)
-
 each-pairs : (P : Pair → Type 0) (ms : List Member) → AllByRecursion P (pairs ms)
     → AllByRecursion (λ (m : Member). P (m.name, m.value)) ms
 each-pairs P [] h = tt
@@ -255,16 +250,6 @@ named-with_value n name value (m ∷ ms) rise =
     swapped false c h = refl
 
 -- ---- names
-pub list_any-each : (test : List ℕ → Bool) (ms : List Member) → AllByRecursion (λ (m : Member). test m.name ≡ false) ms
-    → list_any test (names ms) ≡ false
-list_any-each test [] h = refl
-list_any-each test (m ∷ ms) h = ap (λ b. b || list_any test (names ms)) h.0 ∙ list_any-each test ms h.1
-
-pub each-list_any : (test : List ℕ → Bool) (ms : List Member) → list_any test (names ms) ≡ false
-    → AllByRecursion (λ (m : Member). test m.name ≡ false) ms
-each-list_any test [] h = tt
-each-list_any test (m ∷ ms) h =
-    let parts = or_parts (test m.name) (list_any test (names ms)) h in (parts.0, each-list_any test ms parts.1)
 
 apart : (name : List ℕ) (ms : List Member) → AllByRecursion (λ (n : Pair). bytes_less name n.0 ≡ true) (pairs ms)
     → AllByRecursion (λ n. bytes_eq name n ≡ false) (names ms)

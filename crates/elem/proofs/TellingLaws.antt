@@ -19,10 +19,10 @@ each-more P xs i x here within all own =
     (AllByRecursion-append P (take i xs) (x ∷ []) all (own, tt))
 
 -- members and their names
-pub names-each : (members : List Member) → AllByRecursion (λ (member : Member). IsUtf8 member.name) members
-    → AllByRecursion IsUtf8 (names members)
-names-each [] all = tt
-names-each (member ∷ members) all = (all.0, names-each members all.1)
+pub names-each : (P : List ℕ → Type 0) (members : List Member)
+    → AllByRecursion (λ (member : Member). P member.name) members → AllByRecursion P (names members)
+names-each P [] all = tt
+names-each P (member ∷ members) all = (all.0, names-each P members all.1)
 
 -- a kind that isn't another one has a name of the program
 pub known-name : (kind : Kind) → ((name : List ℕ) → kind ≡ kinds.Other name → IsUtf8 name) → IsUtf8 (kind_name kind)

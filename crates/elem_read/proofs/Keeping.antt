@@ -106,7 +106,7 @@ binding-kept found binding nests is =
 binding-written : (found : Option (List ℕ)) (binding : Binding) → IsBindingObject found binding → IsBindingText binding
 binding-written found binding is = record {
   target = is.target.0;
-  rest = names-each binding.rest (others-hold IsNamed (bytes_eq (codes "elementId")) (find_in is.members) binding.rest
+  rest = names-each IsUtf8 binding.rest (others-hold IsNamed (bytes_eq (codes "elementId")) (find_in is.members) binding.rest
       (found-has IsNamed is.members is.object.are_members.named) is.rest);
 }
 
@@ -180,5 +180,5 @@ says-written find e named is = record {
       own-hold _ IsBindingOrNull _ e.start_binding _ is.start_binding (λ x own form. binding-written _ x form);
   end_binding = own-hold _ IsBindingOrNull _ e.end_binding _ is.end_binding (λ x own form. binding-written _ x form);
   file = own-hold _ IsTextOrNull _ e.file _ is.file (λ x own form. form.0);
-  rest = names-each e.rest (others-hold IsNamed (is_header e.kind) find e.rest named is.rest);
+  rest = names-each IsUtf8 e.rest (others-hold IsNamed (is_header e.kind) find e.rest named is.rest);
 }

@@ -18,10 +18,11 @@ use Rattle.delta.specs.Facts.{part_ids}
 use Rattle.delta.specs.Pairs.{Pair, EntryStandsFor, pair_with, pairs_from}
 use Rattle.delta.specs.Parts.{PartStandsFor, inverse, inverses}
 use Rattle.delta.specs.declared.stamping.VersionFull.{VersionFull}
-use Rattle.delta.proofs.CallerLemmas.{entry-more, entry-none, applied-apart, Contains-map, rising-push, rising-front, earlier_less, later_greater}
+use Rattle.delta.proofs.CallerLemmas.{entry-more, entry-none, applied-apart, rising-push, rising-front, earlier_less, later_greater}
 use Rattle.history.proofs.PlanLaws.{reverse-cons}
 use Rattle.history.specs.Stacks.{OnFull, HasStepped, HasStoredIds, HaveStoredIds}
 use Rattle.history.specs.Steps.{stamped, IsNow, IsFull, IsFullId, IsLeastFull, PartHasGiven, IsGivenByPart, IsStep, ComesOf}
+use Rattle.json_text.proofs.CallerLemmas.{Contains-map}
 
 pub reverse-Contains : {X : Type 0} (xs : List X) (x : X) → Contains (reverse xs) x → Contains xs x
 reverse-Contains [] x c = absurd (omega (arith, c.1))

@@ -8,11 +8,12 @@ use Rattle.elem.specs.ElementValue.{ElementValue}
 use Rattle.elem.specs.Order.{unstamped, has_id}
 use Rattle.elem_store.specs.Updates.{element_of, ids_of}
 use Rattle.elem_store.proofs.CallerLemmas.{Contains-filter, filter-Contains, find-Some, member}
-use Rattle.delta.proofs.CallerLemmas.{same_members, Contains-map, Contains-to_map}
+use Rattle.delta.proofs.CallerLemmas.{same_members}
 use Rattle.view.specs.Shown.{is_live, live_elements, shown}
 use Rattle.view.proofs.CallerLemmas.{live_elements-rise, stamps-play_no_part}
 use Rattle.replica.specs.Back.{AgreesWith}
 use Rattle.replica.proofs.Leading.{SameAs, bare_of, some-bare}
+use Rattle.json_text.proofs.CallerLemmas.{Contains-map, Contains-to_map}
 
 pub agrees-itself : (elements : List ElementValue) → AgreesWith elements elements
 agrees-itself elements = record {

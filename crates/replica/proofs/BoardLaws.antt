@@ -10,7 +10,6 @@ use Rattle.elem_store.specs.Updates.{element_of, ids_of, takings}
 use Rattle.elem_store.proofs.CallerLemmas.{filter-Contains, Contains-cases}
 use Rattle.delta.specs.Delta.{Delta}
 use Rattle.delta.specs.Pairs.{Pair, pair_with, pairs_from, EntryStandsFor}
-use Rattle.delta.proofs.CallerLemmas.{Contains-map}
 use Rattle.view.specs.Shown.{live_elements}
 use Rattle.board_commands.specs.declared.command.Capture.{Capture}
 use Rattle.board_commands.specs.declared.command.Capture.TheVariants.{Now, Later, Never}
@@ -24,6 +23,7 @@ use Rattle.replica.specs.Boards.{Told, ToldStandsFor, IsSound, IsTold, HasTakenA
 use Rattle.replica.specs.State as state
 use Rattle.replica.specs.State.{State}
 use Rattle.replica.proofs.StoredLaws.{ids-kept, stack-kept, carried-known, takings-elements, element-some}
+use Rattle.json_text.proofs.CallerLemmas.{Contains-map}
 
 -- a board whose parts are these
 pub told-is : (t : Told) (stored view snapshot : List ElementValue) (stacks : Stacks) → t.stored ≡ stored

@@ -11,7 +11,6 @@ use Rattle.elem_store.specs.Updates.{element_of, ids_of}
 use Rattle.elem_store.proofs.CallerLemmas.{same_id, Contains-head, Contains-filter, filter-Contains, find-Some, member}
 use Rattle.delta.specs.Pairs.{Pair, pair_with, pairs_from, IsChanged}
 use Rattle.delta.specs.Parts.{counted}
-use Rattle.delta.proofs.CallerLemmas.{Contains-map, Contains-to_map}
 use Rattle.undoing.specs.Carrying.{taken_all}
 use Rattle.undoing.specs.Differing.{is_changed, pending}
 use Rattle.undoing.specs.Entries.{IsEntry}
@@ -22,6 +21,7 @@ use Rattle.replica.specs.State.{State, noted, stored_with}
 use Rattle.replica.proofs.Agreeing.{agrees-itself}
 use Rattle.replica.proofs.Leading.{bare_of, some-bare, Meets, Leads, IsApart, IsVisible}
 use Rattle.replica.proofs.TakenAt.{taken-at, taken-else}
+use Rattle.json_text.proofs.CallerLemmas.{Contains-map, Contains-to_map}
 
 -- ---- the pairs between a snapshot and what is stored
 module _ (snap stored : List ElementValue) (are : AreElements snap) (are' : AreElements stored)

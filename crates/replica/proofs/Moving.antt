@@ -11,7 +11,6 @@ use Rattle.elem_store.specs.Updates.{element_of, ids_of}
 use Rattle.elem_store.proofs.CallerLemmas.{Contains-head, Contains-cons, member}
 use Rattle.delta.specs.Pairs.{Pair, pair_with, pairs_from}
 use Rattle.delta.specs.Parts.{counted}
-use Rattle.delta.proofs.CallerLemmas.{Contains-map}
 use Rattle.history.specs.declared.planned.Direction.TheVariants.{Undo, Redo}
 use Rattle.undoing.specs.Carrying.{taken_all}
 use Rattle.undoing.specs.Differing.{same_kind, differ, is_changed, pending}
@@ -23,6 +22,7 @@ use Rattle.replica.specs.State.{State, noted, stored_with, undo_on, redo_on, aft
 use Rattle.replica.proofs.Agreeing.{agrees-itself, agrees-same, same-bare, looks-same}
 use Rattle.replica.proofs.Changing.{pending-meets, none-agrees, leads-stored, new-elements, new-rising, new-alike, new-entry, new-visible, changed-state}
 use Rattle.replica.proofs.Ways.{IsWay, way-stepped, way-found}
+use Rattle.json_text.proofs.CallerLemmas.{Contains-map}
 
 -- ---- where nothing is pending, a capture leaves the stacks
 filter-none : {X : Type 0} (p : X → Bool) (xs : List X) → ((x : X) → Contains xs x → p x ≡ false) → filter p xs ≡ []

@@ -11,11 +11,11 @@ use Rattle.elem_store.specs.Updates.{element_of, ids_of}
 use Rattle.elem_store.proofs.CallerLemmas.{same_id, Contains-head, Contains-cons, Contains-cases, find-Some, filter-Contains}
 use Rattle.delta.specs.Pairs.{Pair, pair_with, pairs_from, exchanged}
 use Rattle.delta.specs.Parts.{counted}
-use Rattle.delta.proofs.CallerLemmas.{Contains-map}
 use Rattle.undoing.specs.Differing.{is_changed, pending}
 use Rattle.undoing.specs.Entries.{pair_ids, IsGiven}
 use Rattle.undoing.specs.Steps.{is_seen, given_of, given, Sought, sought, Turn, step}
 use Rattle.undoing.proofs.CallerLemmas.{rise-lower, ids-from, pending-rise, given-each, step-turn, undone-stamp}
+use Rattle.json_text.proofs.CallerLemmas.{Contains-map}
 
 -- the pairs are of one id each, in the order of the ids; so are those of each entry of a stack
 pub record IsOrdered (pairs : List Pair) : Type 0 where

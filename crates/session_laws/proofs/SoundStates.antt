@@ -11,7 +11,6 @@ use Rattle.elem.specs.Order.{has_id}
 use Rattle.elem_store.specs.Updates.{element_of, ids_of, is_taken, takings}
 use Rattle.elem_store.proofs.CallerLemmas.{same_id, of_same, find-Some, filter-Contains, Contains-cases, Contains-head, Contains-cons, member, AreStored-itself, ids-stay}
 use Rattle.delta.specs.Pairs.{Pair, pair_with, pairs_from, exchanged}
-use Rattle.delta.proofs.CallerLemmas.{Contains-map}
 use Rattle.view.specs.Shown.{live_elements, shown}
 use Rattle.reconcile.specs.Ids.{is_held, free_elements}
 use Rattle.board_commands.specs.declared.command.Capture.{Capture}
@@ -34,6 +33,7 @@ use Rattle.replica.specs.State.{State, nothing, noted, captured, stored_with, ca
 use Rattle.replica.proofs.CallerLemmas.{taken-at, taken-else}
 use Rattle.board_commands.specs.Written.{IsWrittenCommand}
 use Rattle.given_elements.proofs.CallerLemmas.{board-given}
+use Rattle.json_text.proofs.CallerLemmas.{Contains-map}
 
 -- something is stored of the id
 abbrev pub IsStoredIn : List ElementValue → List ℕ → Type 0

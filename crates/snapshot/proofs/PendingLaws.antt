@@ -8,8 +8,8 @@ use Rattle.elem.specs.ElementValue.{ElementValue}
 use Rattle.delta.specs.Pairs.{Pair, pair_with}
 use Rattle.elem_store.specs.Updates.{element_of, ids_of}
 use Rattle.elem_store.proofs.CallerLemmas.{some_within, earlier_less}
-use Rattle.delta.proofs.CallerLemmas.{Contains-map}
 use Rattle.snapshot.specs.Pending.{pairs_since}
+use Rattle.json_text.proofs.CallerLemmas.{Contains-map}
 
 module _ (snapshot store : List ElementValue) (i : ℕ) (e : ElementValue) (at : slice_get store i ≡ Some e) where
   here : get_or store i e ≡ e

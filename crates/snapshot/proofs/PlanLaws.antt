@@ -12,7 +12,7 @@ use Rattle.elem_store.proofs.CallerLemmas.{find-Some, member, AreStored-itself, 
 use Rattle.delta.specs.Delta.{Delta}
 use Rattle.delta.specs.Pairs.{Pair, pair_with, IsUnchanged, EntryStandsFor, IsSamePair, HasSamePairs}
 use Rattle.delta.specs.Parts.{counted}
-use Rattle.delta.proofs.CallerLemmas.{entry-unstamped, none-earlier, Contains-map, Contains-to_map, rising-front}
+use Rattle.delta.proofs.CallerLemmas.{entry-unstamped, none-earlier, rising-front}
 use Rattle.undoing.specs.Carrying.{with_put, with_all_put, taken, taken_all, followed, carried_over, carried_all}
 use Rattle.undoing.specs.Differing.{same_kind}
 use Rattle.undoing.specs.Undoing.{undone}
@@ -20,6 +20,7 @@ use Rattle.undoing.proofs.CallerLemmas.{taken-has}
 use Rattle.snapshot.specs.Carried.{carried_to, with_made}
 use Rattle.snapshot.specs.Pending.{pairs_since}
 use Rattle.snapshot.proofs.PutLaws.{rises, put-below, put-there, all-rise, all-each, all-append, all-below, all-cover, taken_all-put}
+use Rattle.json_text.proofs.CallerLemmas.{Contains-map, Contains-to_map}
 
 -- ---- an entry of some elements stands for those over the others too
 module _ (captured step : List ElementValue) (rise : are_rising (ids_of step) ≡ true)

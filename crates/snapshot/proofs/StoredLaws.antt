@@ -3,7 +3,7 @@ use Rattle.std.proofs.Common.{◌≡◌, ℕ, Bool, true, false, cond, List, [],
 use Rattle.std.specs.Option.{option_map}
 use Rattle.std.proofs.lemmas.Bool.{cases_Bool, cond-true, cond-false, false≢true}
 use Rattle.std.proofs.lemmas.Option.{none-some, same_Some}
-use Rattle.json_text.proofs.CallerLemmas.{bytes_eq-true, bytes_eq-same}
+use Rattle.json_text.proofs.CallerLemmas.{bytes_eq-true, bytes_eq-same, Contains-map}
 use Rattle.frac_keys.specs.Rising.{are_rising}
 use Rattle.elem.specs.declared.kind.Kind.{Kind}
 use Rattle.elem.specs.ElementValue.{ElementValue}
@@ -13,7 +13,6 @@ use Rattle.elem_store.specs.Updates.{element_of, ids_of, is_taken, takings, Taki
 use Rattle.elem_store.proofs.CallerLemmas.{same_id, of_itself, Contains-cases, filter-Contains}
 use Rattle.delta.specs.Delta.{Delta}
 use Rattle.delta.specs.Pairs.{Pair, pair_with, IsPartOf, EntryStandsFor}
-use Rattle.delta.proofs.CallerLemmas.{Contains-map}
 use Rattle.undoing.specs.Carrying.{with_put, carried, carried_all, carried_over, taken, taken_all}
 use Rattle.undoing.specs.Differing.{same_kind, is_changed, pending}
 use Rattle.undoing.specs.Undoing.{undone, undone_in}

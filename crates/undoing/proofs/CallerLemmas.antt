@@ -8,5 +8,5 @@ pub use Rattle.undoing.proofs.StepLaws.{given-taken, made-entry, sought-entries,
 pub use Rattle.undoing.proofs.TakenLaws.{Is, carried-elements, carried-rising, carried_all-elements, carried_all-rising}
 pub use Rattle.undoing.proofs.TakenLaws.{put-each, put-elements, taken-has, taken_all-elements, taken_all-is}
 pub use Rattle.undoing.proofs.TakenLaws.{taken_all-rising, taken_all-stored, takings-elements}
-pub use Rattle.undoing.proofs.UndoneLaws.{members-each, members-rising, restamped, reverts-undone, undone-element}
-pub use Rattle.undoing.proofs.UndoneLaws.{undone-stamp, undone-undoes, undone_in-undoes}
+pub use Rattle.undoing.proofs.UndoneLaws.{follows-undone, restamped, reverts-undone, undone-back, undone-element}
+pub use Rattle.undoing.proofs.UndoneLaws.{undone-stamp, undone-undoes}

@@ -15,7 +15,7 @@ use Rattle.elem.proofs.CallerLemmas.{element_with_stamp, texts_with_stamp}
 use Rattle.elem_store.specs.Updates.{element_of, ids_of, is_taken, is_newer}
 use Rattle.elem_store.proofs.CallerLemmas.{Contains-head, Contains-cons, Contains-cases, find-Some, is_some-find, list_any-false}
 use Rattle.delta.specs.Pairs.{Pair, IsChanged, pair_with, exchanged}
-use Rattle.delta.proofs.CallerLemmas.{Contains-map, later_greater}
+use Rattle.delta.proofs.CallerLemmas.{later_greater}
 use Rattle.undoing.specs.Differing.{differ}
 use Rattle.undoing.specs.Entries.{IsOfElements, pair_ids, IsEntry, AreEntries, IsGiven, IsFullId, IsSoundTurn}
 use Rattle.undoing.specs.Steps.{Reverted, reverted, changes, is_full, is_seen, stamped, given_of, given, full_id, Sought, sought, Turn, made, turn_of, turn_unless, step}
@@ -23,6 +23,7 @@ use Rattle.undoing.specs.Undoing.{undone}
 use Rattle.undoing.proofs.DifferingLaws.{differ-true, found-is, rise-lower, ids-from}
 use Rattle.undoing.proofs.UndoneLaws.{undone-stamp, undone-element}
 use Rattle.frac_keys.proofs.CallerLemmas.{bytes_less_itself, bytes_less-asym}
+use Rattle.json_text.proofs.CallerLemmas.{Contains-map}
 
 -- ---- what a function gives of the items of a list
 module _ {X Y : Type 0} (h : X → Option Y) where
