@@ -20,7 +20,7 @@ use Rattle.delta.specs.Parts.{PartStandsFor, inverse, inverses}
 use Rattle.delta.specs.declared.stamping.VersionFull.{VersionFull}
 use Rattle.delta.proofs.CallerLemmas.{entry-more, entry-none, applied-apart, rising-push, rising-front, earlier_less, later_greater}
 use Rattle.history.proofs.PlanLaws.{reverse-cons}
-use Rattle.history.specs.Stacks.{OnFull, HasStepped, HasStoredIds, HaveStoredIds}
+use Rattle.history.specs.Stacks.{OnFull, HasStepped, HasStoredIds, HaveStoredIds, with_entry, redo_left}
 use Rattle.history.specs.Steps.{stamped, IsNow, IsFull, IsFullId, IsLeastFull, PartHasGiven, IsGivenByPart, IsStep, ComesOf}
 use Rattle.json_text.proofs.CallerLemmas.{Contains-map}
 
@@ -297,3 +297,18 @@ ids-taken old new e stack taken stored parts inside part among =
     either : (b : Bool) → IsSome (if b then Some e else element_of old part.id)
     either true = refl
     either false = stored parts inside part among
+
+-- ---- an entry that is noted
+pub noted-ids : (stored : List ElementValue) (entry : List Delta) (stack : List (List Delta))
+    → HasStoredIds stored entry → HaveStoredIds stored stack → HaveStoredIds stored (with_entry entry stack)
+noted-ids stored [] stack own ids parts c = ids parts c
+noted-ids stored (part ∷ more) stack own ids parts c =
+    elim (Contains-push_cases stack (part ∷ more) parts c) [
+      | inl earlier ↦ ids parts earlier
+      | inr same ↦ subst (HasStoredIds stored) same own
+    ]
+
+pub left-ids : (stored : List ElementValue) (entry : List Delta) (stack : List (List Delta))
+    → HaveStoredIds stored stack → HaveStoredIds stored (redo_left entry stack)
+left-ids stored [] stack ids parts c = ids parts c
+left-ids stored (part ∷ more) stack ids parts c = absurd (omega (arith, c.1))

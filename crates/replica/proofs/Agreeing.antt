@@ -34,7 +34,7 @@ agrees-same old now others agrees same = record {
 }
 
 -- ---- lists that are the same but for stamps
-find-unstamped : (id : List ℕ) (es : List ElementValue) → bare_of es id ≡ element_of (map unstamped es) id
+pub find-unstamped : (id : List ℕ) (es : List ElementValue) → bare_of es id ≡ element_of (map unstamped es) id
 find-unstamped id [] = refl
 find-unstamped id (e ∷ es) =
     elim (has_id id e) as (λ b. option_map unstamped (cond b (Some e) (element_of es id))
@@ -47,7 +47,7 @@ pub same-bare : (a b : List ElementValue) → map unstamped a ≡ map unstamped 
 same-bare a b same id = find-unstamped id a ∙ ap (λ es. element_of es id) same ∙ sym (find-unstamped id b)
 
 -- ---- what is shown
-ids-unstamped : (es : List ElementValue) → ids_of (map unstamped es) ≡ ids_of es
+pub ids-unstamped : (es : List ElementValue) → ids_of (map unstamped es) ≡ ids_of es
 ids-unstamped [] = refl
 ids-unstamped (e ∷ es) = ap (λ ids. e.id ∷ ids) (ids-unstamped es)
 

@@ -19,7 +19,7 @@ use Rattle.undoing.proofs.CallerLemmas.{same_kind-true, found-is, put-each, put-
 use Rattle.snapshot.proofs.CallerLemmas.{takings-more}
 use Rattle.replica.specs.Back.{IsCaptured}
 use Rattle.replica.specs.State.{State, carried_with}
-use Rattle.replica.proofs.CallerLemmas.{same-bare, SameAs, bare_of}
+use Rattle.replica.proofs.CallerLemmas.{same-bare, SameAs, bare_of, find-unstamped, ids-unstamped}
 use Rattle.session_laws.proofs.SoundStates.{IsKept}
 
 -- an element as its type keeps it
@@ -111,18 +111,6 @@ all-same (e ∷ more) snapshot stored rise rise' are are' all same =
     ])
 
 -- ---- lists whose ids rise
-find-unstamped : (id : List ℕ) (es : List ElementValue) → bare_of es id ≡ element_of (map unstamped es) id
-find-unstamped id [] = refl
-find-unstamped id (e ∷ es) =
-    elim (has_id id e) as (λ b. option_map unstamped (cond b (Some e) (element_of es id))
-    ≡ cond b (Some (unstamped e)) (element_of (map unstamped es) id)) [
-      | true ↦ refl
-      | false ↦ find-unstamped id es
-    ]
-
-ids-unstamped : (es : List ElementValue) → ids_of (map unstamped es) ≡ ids_of es
-ids-unstamped [] = refl
-ids-unstamped (e ∷ es) = ap (λ ids. e.id ∷ ids) (ids-unstamped es)
 
 bare-same : (a b : List ElementValue) → are_rising (ids_of a) ≡ true → are_rising (ids_of b) ≡ true → SameAs a b
     → map unstamped a ≡ map unstamped b

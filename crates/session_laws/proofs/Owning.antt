@@ -21,7 +21,8 @@ use Rattle.session.proofs.CallerLemmas.{flat, clashes-same}
 use Rattle.session_laws.specs.Own.{IsOwnEvent, HasOwnUpdates}
 use Rattle.session_laws.proofs.Seats.{at-set, at-replicated, Keeps, seat-keeps, act-keeps, delivered-keeps, opened-seats, opened-takes, put-there, flat-more}
 use Rattle.session_laws.proofs.Giving.{IsReady, fresh-ready, delivered-ready, IsOwnAct, acted-ready, change-own, turn-own}
-use Rattle.session_laws.proofs.Ties.{AreAlike, free-more, none-free, free-of-clashes, covered}
+use Rattle.session_laws.proofs.Ties.{free-more, none-free, free-of-clashes, covered}
+use Rattle.clash.proofs.CallerLemmas.{AreAlike}
 
 -- ---- an element that a replica made
 pub record IsMade (replicas : ℕ) (w : World) (e : ElementValue) : Type 0 where

@@ -318,7 +318,7 @@ module _ (stored : List ElementValue) (time nonce : ℕ) (pairs : List Pair) (ar
   }
 
 -- ---- entries the other way round
-ids-exchanged : (pairs : List Pair) → ((pair : Pair) → Contains pairs pair → pair.before.id ≡ pair.after.id)
+pub ids-exchanged : (pairs : List Pair) → ((pair : Pair) → Contains pairs pair → pair.before.id ≡ pair.after.id)
     → pair_ids (map exchanged pairs) ≡ pair_ids pairs
 ids-exchanged [] same = refl
 ids-exchanged (pair ∷ pairs) same =
