@@ -1,11 +1,13 @@
 -- The keys between two ends rise strictly from the one to the other.
-use Rattle.std.proofs.Common.{◌≡◌, ℕ, zero, suc, ◌+◌, ◌-◌, ◌/◌, ◌≤◌, true, List, [], ◌∷◌, ◌++◌, length, Option, Some, None, eqb, refl, sym, ◌∙◌, subst, length-append, ◌<◌, le_refl, arith}
-use Rattle.std.specs.List.{list_all}
+use Rattle.std.proofs.Common.{◌≡◌, ℕ, zero, suc, ◌+◌, ◌-◌, ◌/◌, ◌≤◌, true, List, [], ◌∷◌, ◌++◌, length, Option, Some, None, eqb, refl, sym, ◌∙◌, subst, length-append, ◌<◌, le_refl, arith, ap, is_lt, nat_cmp, Less}
+use Rattle.std.specs.List.{list_all, AllByRecursion}
 use Rattle.std.proofs.lemmas.Bool.{cond_both, and_from, and_parts, eqb-true, eqb-false}
 use Rattle.std.proofs.lemmas.List.Folds.{list_all-append}
-use Rattle.frac_keys.specs.Keys.{is_key}
+use Rattle.std.specs.List.Sorted.{IsStrictlySortedBy}
+use Rattle.std.specs.Cmp.Lexicographic.{slice_cmp}
+use Rattle.frac_keys.specs.Keys.{is_key, bytes_less}
 use Rattle.frac_keys.specs.Between.{key_between, keys_above, keys_below, keys_inside, keys_between}
-use Rattle.frac_keys.specs.Rising.{ends_rise, is_key_or_none, lies_between, rise_between}
+use Rattle.frac_keys.specs.Rising.{ends_rise, is_key_or_none, lies_between, rise_between, are_rising}
 use Rattle.frac_keys.proofs.OrderLaws.{bytes_less-trans}
 use Rattle.frac_keys.proofs.BetweenLaws.{key_between-law}
 
@@ -31,6 +33,28 @@ rise_between-ends a b [] h = h
 rise_between-ends a b (k ∷ keys) h =
     let p = and_parts (ends_rise a (Some k)) (rise_between (Some k) b keys) h in
     ends_rise-trans a k b p.0 (rise_between-ends (Some k) b keys p.1)
+
+-- keys that are sorted rise
+below-less : (key : List ℕ) (keys : List (List ℕ)) → AllByRecursion (λ other. slice_cmp nat_cmp key other ≡ Less) keys
+    → AllByRecursion (λ other. bytes_less key other ≡ true) keys
+below-less key [] all = tt
+below-less key (other ∷ keys) all = (ap is_lt all.0, below-less key keys all.1)
+
+sorted-between : (low : Option (List ℕ)) (keys : List (List ℕ))
+    → AllByRecursion (λ key. ends_rise low (Some key) ≡ true) keys → IsStrictlySortedBy (slice_cmp nat_cmp) keys
+    → rise_between low None keys ≡ true
+unfolding IsStrictlySortedBy
+sorted-between None [] above sorted = refl
+sorted-between (Some k) [] above sorted = refl
+sorted-between low (key ∷ keys) above sorted =
+    and_from _ _ above.0 (sorted-between (Some key) keys (below-less key keys sorted.0) sorted.1)
+
+pub sorted-rising : (keys : List (List ℕ)) → IsStrictlySortedBy (slice_cmp nat_cmp) keys → are_rising keys ≡ true
+sorted-rising keys sorted = sorted-between None keys (free keys) sorted
+  where
+    free : (keys : List (List ℕ)) → AllByRecursion (λ (key : List ℕ). ends_rise None (Some key) ≡ true) keys
+    free [] = tt
+    free (key ∷ keys) = (refl, free keys)
 
 -- and each key lies between the ends
 wider : (a : Option (List ℕ)) (k : List ℕ) (b : Option (List ℕ)) (keys : List (List ℕ)) → ends_rise a (Some k) ≡ true

@@ -19,4 +19,5 @@ pub use Rattle.json_text.proofs.Forms.{nests-or-not, object-or-not, object-start
 pub use Rattle.json_text.proofs.Forms.{starts-same, string-or-not}
 pub use Rattle.json_text.proofs.FirstLaws.{Contains-first_texts, IsDistinct-filter, IsDistinct-first_texts}
 pub use Rattle.json_text.proofs.FirstLaws.{any-first_texts, first_texts-distinct}
-pub use Rattle.json_text.proofs.Lists.{Contains-map, Contains-to_map}
+pub use Rattle.json_text.proofs.Lists.{Contains-map, Contains-to_map, drop-once, none-is, take-next, taken-next}
+pub use Rattle.json_text.proofs.Blanks.{Runs-either, blank-run, run-blank, run-more}

@@ -10,4 +10,5 @@ pub mod CompactLaws
 pub mod Forms
 pub mod FirstLaws
 pub mod Lists
+pub mod Blanks
 pub mod CallerLemmas

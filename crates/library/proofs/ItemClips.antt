@@ -12,6 +12,7 @@ use Rattle.elem.specs.ElementValue.{ElementValue}
 use Rattle.elem.specs.Order.{HaveDistinctIds}
 use Rattle.elem.specs.Texts.{element_text}
 use Rattle.scene_file.specs.Reading.{HasItems}
+use Rattle.scene_file.proofs.CallerLemmas.{array-no-null}
 use Rattle.clips.specs.Clips.{live_in, IsClipOf}
 use Rattle.clips.specs.Placed.{elements_in}
 use Rattle.clips.specs.declared.placed.Placed.{Placed}
@@ -48,9 +49,6 @@ distinct-live (p ∷ placed) d = by (not p.element.deleted) (distinct-live place
     by false later = later
 
 -- ---- the clip
-array-no-null : (texts : List (List ℕ)) → bytes_eq (array_text texts) null_word ≡ false
-unfolding array_text
-array-no-null texts = refl
 
 items-given : (texts : List (List ℕ)) → HasItems (Some (array_text texts)) texts
     → HasItems (cond (bytes_eq (array_text texts) null_word) None (Some (array_text texts))) texts

@@ -1,9 +1,9 @@
 -- The joined head of the same heads in another order.
-use Rattle.std.proofs.Common.{◌≡◌, ◌↔◌, ℕ, false, ◌⊎◌, inl, inr, List, [], ◌∷◌, ◌++◌, Option, Some, None, All, Contains, IfSome, refl, sym, ap, ◌∙◌, subst, arith}
+use Rattle.std.proofs.Common.{◌≡◌, ◌↔◌, ℕ, false, inl, inr, List, [], ◌∷◌, Option, Some, None, All, Contains, IfSome, refl, sym, ap, ◌∙◌, subst, arith}
 use Rattle.std.specs.List.{flat_map}
 use Rattle.std.specs.Str.{IsUtf8}
 use Rattle.std.proofs.lemmas.Bool.{cases_Bool, cond-true, cond-false}
-use Rattle.std.proofs.lemmas.List.Elements.{All-contains}
+use Rattle.std.proofs.lemmas.List.Elements.{All-contains, Contains-append_left, Contains-append_right, Contains-append_cases}
 use Rattle.json_text.specs.Characters.{quote}
 use Rattle.json_text.specs.Members.{pairs}
 use Rattle.frac_keys.specs.Keys.{bytes_less}
@@ -16,36 +16,19 @@ use Rattle.frac_keys.proofs.CallerLemmas.{bytes-neither, bytes-below, bytes_less
 use Rattle.scene_json.proofs.CallerLemmas.{quote-once}
 
 -- ---- lists that are joined
-in-left : {X : Type 0} (xs ys : List X) (y : X) → Contains xs y → Contains (xs ++ ys) y
-in-left [] ys y h = absurd (omega (arith, h.1))
-in-left (x ∷ xs) ys y h = elim (Contains-cases x xs y h) [
-  | inl e ↦ subst (Contains (x ∷ (xs ++ ys))) e (Contains-head x (xs ++ ys))
-  | inr later ↦ Contains-cons x (xs ++ ys) y (in-left xs ys y later)
-]
-
-in-right : {X : Type 0} (xs ys : List X) (y : X) → Contains ys y → Contains (xs ++ ys) y
-in-right [] ys y h = h
-in-right (x ∷ xs) ys y h = Contains-cons x (xs ++ ys) y (in-right xs ys y h)
-
-in-either : {X : Type 0} (xs ys : List X) (y : X) → Contains (xs ++ ys) y → Contains xs y ⊎ Contains ys y
-in-either [] ys y h = inr h
-in-either (x ∷ xs) ys y h = elim (Contains-cases x (xs ++ ys) y h) [
-  | inl e ↦ inl (subst (Contains (x ∷ xs)) e (Contains-head x xs))
-  | inr later ↦ elim (in-either xs ys y later) [ inl left ↦ inl (Contains-cons x xs y left) | inr right ↦ inr right ]
-]
 
 in-parts : {X Y : Type 0} (f : X → List Y) (xs : List X) (x : X) (y : Y) → Contains xs x → Contains (f x) y
     → Contains (flat_map f xs) y
 in-parts f [] x y h k = absurd (omega (arith, h.1))
 in-parts f (first ∷ xs) x y h k = elim (Contains-cases first xs x h) [
-  | inl e ↦ in-left (f first) (flat_map f xs) y (subst (λ z. Contains (f z) y) (sym e) k)
-  | inr later ↦ in-right (f first) (flat_map f xs) y (in-parts f xs x y later k)
+  | inl e ↦ Contains-append_left (f first) (flat_map f xs) y (subst (λ z. Contains (f z) y) (sym e) k)
+  | inr later ↦ Contains-append_right (f first) (flat_map f xs) y (in-parts f xs x y later k)
 ]
 
 part-of : {X Y : Type 0} (f : X → List Y) (xs : List X) (y : Y) → Contains (flat_map f xs) y → (x : X) × Contains xs x
     × Contains (f x) y
 part-of f [] y h = absurd (omega (arith, h.1))
-part-of f (first ∷ xs) y h = elim (in-either (f first) (flat_map f xs) y h) [
+part-of f (first ∷ xs) y h = elim (Contains-append_cases (f first) (flat_map f xs) y h) [
   | inl here ↦ (first, Contains-head first xs, here)
   | inr there ↦ let found = part-of f xs y there in (found.0, Contains-cons first xs found.0 found.1, found.2)
 ]
