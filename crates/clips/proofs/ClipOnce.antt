@@ -26,7 +26,8 @@ clip-once text clip other one two =
     let values = items-once (value_unless_null (codes "elements") one.members) two.values one.values
     (subst (λ ms. HasItems (value_unless_null (codes "elements") ms) two.values) members two.items) one.items in
     let files = pairs-once clip.files other.files
-    (value_unless_null-once (value_unless_null (codes "files") one.members) (pairs clip.files) (pairs other.files) one.files
+    (value_unless_null-once (value_unless_null (codes "files") one.members) (pairs clip.files) (pairs other.files)
+    one.files
     (subst (λ ms. HasMembers (value_unless_null (codes "files") ms) (pairs other.files)) members two.files)) in
     let placed = placed-once 0 one.values one.placed two.placed one.read
     (subst (λ vs. AreReadFrom 0 vs two.placed) values two.read) in

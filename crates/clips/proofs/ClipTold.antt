@@ -4,6 +4,7 @@ use Rattle.std.proofs.lemmas.List.Elements.{All-cons, All-head, All-tail}
 use Rattle.board_base.specs.declared.stop.Stop.TheVariants.{Fault}
 use Rattle.json_text.specs.Characters.{quote}
 use Rattle.json_text.specs.Compact.{Member as Pair}
+use Rattle.json_text.proofs.CallerLemmas.{ascii-utf8}
 use Rattle.scene_json.specs.Named.{value_at}
 use Rattle.elem_read.proofs.CallerLemmas.{stopped}
 use Rattle.scene_file.specs.Reading.{value_unless_null, HasMembers}
@@ -13,7 +14,6 @@ use Rattle.clips.specs.Placed.{elements_in}
 use Rattle.clips.specs.declared.placed.Placed.{Placed}
 use Rattle.clips.specs.declared.fault.ClipFault.{ClipFault}
 use Rattle.clips.specs.declared.fault.ClipFault.TheVariants.{NotObject, NotClip, Elements, Files, Element, Repeated}
-use Rattle.json_text.proofs.CallerLemmas.{ascii-utf8}
 
 pub is-clipboard : (members : List Pair) → value_at (codes "type") members ≡ Some (quote (codes "excalidraw/clipboard"))
     → IsClipboard members

@@ -80,5 +80,6 @@ clip-or-fault text is = by (object-or-not text is)
           | inr none ↦ inr (NotClip, (members, object, none))
           | inl kind ↦ parts members are object kind (items-or-not (value_unless_null (codes "elements") members)
               (fits-value_unless_null (codes "elements") members are))
-              (members-or-not (value_unless_null (codes "files") members) (fits-value_unless_null (codes "files") members are))
+              (members-or-not (value_unless_null (codes "files") members)
+              (fits-value_unless_null (codes "files") members are))
         ]

@@ -1,5 +1,6 @@
 -- Values that are read one after the other, each with its place.
 use Rattle.std.proofs.Common.{◌≡◌, inl, inr, ℕ, suc, ◌+◌, ◌<◌, List, [], ◌∷◌, ◌++◌, All, length, take, get_or, refl, sym, ap, ap₂, subst, ◌∙◌, arith, length-take}
+use Rattle.json_text.proofs.CallerLemmas.{taken-next}
 use Rattle.elem.specs.ElementValue.{ElementValue}
 use Rattle.elem_read.specs.Elements.{AreRead, IsFirstFaulty}
 use Rattle.elem_read.specs.Reading.{IsSelection, IsElementIn, IsFaultIn, IsWholeElement}
@@ -7,7 +8,6 @@ use Rattle.elem_read.specs.declared.fault.ElemFault.{ElemFault}
 use Rattle.elem_read.proofs.CallerLemmas.{All-whole, element-kept, element-once, faultless, faulty-at}
 use Rattle.clips.specs.Placed.{elements_in, AreReadFrom}
 use Rattle.clips.specs.declared.placed.Placed.{Placed}
-use Rattle.json_text.proofs.CallerLemmas.{taken-next}
 
 -- ---- one value more
 read-append : (n : ℕ) (values : List (List ℕ)) (value : List ℕ) (placed : List Placed) (p : Placed)

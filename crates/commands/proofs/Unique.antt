@@ -5,6 +5,7 @@ use Rattle.base64.specs.Engines.{standard}
 use Rattle.json_text.specs.Characters.{quote}
 use Rattle.json_text.specs.Compact.{Member as Pair}
 use Rattle.scene_json.specs.Named.{value_at}
+use Rattle.scene_json.proofs.CallerLemmas.{quote-once}
 use Rattle.elem.specs.ElementValue.{ElementValue}
 use Rattle.elem.proofs.CallerLemmas.{object-once}
 use Rattle.elem_store.specs.Updates.{AreBest}
@@ -37,7 +38,6 @@ use Rattle.commands.proofs.PasteOnce.{pasted-once}
 use Rattle.commands.proofs.ShelfOnce.{shelf-once}
 use Rattle.commands.proofs.InsertOnce.{inserted-once}
 use Rattle.commands.proofs.Inputs.{input-once, faulty-once, faulty-scenes, extra-scene, extra-once}
-use Rattle.scene_json.proofs.CallerLemmas.{quote-once}
 
 -- ---- the board of scenes
 stored-once : {scenes : List Scene} {head other : Heading} {stored news : List ElementValue}

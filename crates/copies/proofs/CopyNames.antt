@@ -4,6 +4,7 @@ use Rattle.std.proofs.lemmas.Bool.{cond-true}
 use Rattle.std.proofs.lemmas.List.{append_cancel_left}
 use Rattle.std.proofs.lemmas.Option.{same_Some}
 use Rattle.std.specs.List.{IsDistinct}
+use Rattle.json_text.proofs.CallerLemmas.{Contains-map, Contains-to_map}
 use Rattle.elem.specs.declared.kind.Role.{Role}
 use Rattle.elem.specs.declared.parts.BoundRef.{BoundRef}
 use Rattle.elem.specs.declared.parts.Binding.{Binding}
@@ -13,7 +14,6 @@ use Rattle.elem_store.proofs.CallerLemmas.{Contains-filter, filter-Contains}
 use Rattle.copies.specs.Copies.{copied_end, copied_entries, copied_entry, copied_name, copies_of, copy_among, is_among}
 use Rattle.copies.specs.Naming.{Way, ByStart, ByEnd, ByContainer, ByFrame, ByListing, IsBoundTo, Names, copy_of}
 use Rattle.copies.proofs.Lists.{among-is, is-among, distinct-under}
-use Rattle.json_text.proofs.CallerLemmas.{Contains-map, Contains-to_map}
 
 -- ---- each way, where the ids that are copied are told by a test
 module _ (among : List ℕ → Bool) (prefix : List ℕ) where

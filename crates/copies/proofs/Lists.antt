@@ -3,12 +3,12 @@ use Rattle.std.proofs.Common.{◌≡◌, ℕ, true, false, ◌||◌, List, [], �
 use Rattle.std.specs.List.{IsDistinct, AllByRecursion}
 use Rattle.std.proofs.lemmas.Bool.{false≢true, cases_Bool}
 use Rattle.std.proofs.lemmas.List.{append_cancel_left}
+use Rattle.std.proofs.Math.Bool.{or-true}
 use Rattle.json_text.proofs.CallerLemmas.{bytes_eq-apart, bytes_eq-same}
 use Rattle.elem.specs.ElementValue.{ElementValue}
 use Rattle.elem.specs.Order.{has_id}
 use Rattle.elem_store.proofs.CallerLemmas.{Contains-cases, Contains-cons, Contains-head, of_itself, same_id}
 use Rattle.copies.specs.Copies.{is_among}
-use Rattle.std.proofs.Math.Bool.{or-true}
 
 -- ---- ids among elements
 pub among-is : (xs : List ElementValue) (id : List ℕ) → is_among xs id ≡ true → (other : ElementValue)

@@ -3,6 +3,7 @@ use Rattle.std.proofs.Common.{◌≡◌, ℕ, zero, suc, ◌<◌, ◌≤◌, Boo
 use Rattle.std.specs.List.{AllByRecursion, list_any}
 use Rattle.std.specs.Option.{option_or}
 use Rattle.std.proofs.lemmas.List.Folds.{find-append}
+use Rattle.std.proofs.lemmas.Option.{none-some}
 use Rattle.json_text.specs.Members.{pairs}
 use Rattle.json_text.specs.Value.{IsCompact}
 use Rattle.json_text.specs.declared.text.Member.{Member}
@@ -23,7 +24,6 @@ use Rattle.delta.specs.Parts.{change_of, inverted, inverse}
 use Rattle.delta.specs.Rest.{made, with_value}
 use Rattle.delta.proofs.HeaderLaws.{header_kept}
 use Rattle.delta.proofs.RestLaws.{risen, rises, rising-with_value, each-with_value, named-with_value}
-use Rattle.std.proofs.lemmas.Option.{none-some}
 
 pub OnOk-weaker : {T E : Type 0} (r : Result T E) (P Q : Type 0) → (P → Q) → OnOk r P → OnOk r Q
 OnOk-weaker (Ok x) P Q f h = f h

@@ -2,6 +2,7 @@
 use Rattle.std.proofs.Common.{◌≡◌, ◌≢◌, ℕ, Bool, true, false, ◌||◌, List, Option, Some, None, inl, inr, codes, bytes_eq, if◌then◌else◌, refl, sym, ap, ◌∙◌}
 use Rattle.std.specs.List.{list_any}
 use Rattle.std.proofs.lemmas.Bool.{cases_Bool, false≢true, or_parts}
+use Rattle.std.proofs.lemmas.Option.{none-some, same_Some}
 use Rattle.json_text.proofs.CallerLemmas.{bytes_eq-true, bytes_eq-same, bytes_eq-apart}
 use Rattle.json_text.specs.declared.text.Member.{Member}
 use Rattle.elem.specs.declared.kind.Kind.{Kind}
@@ -13,7 +14,6 @@ use Rattle.delta.specs.declared.header.Header.TheVariants as headers
 use Rattle.delta.specs.Facts.{other_names}
 use Rattle.delta.specs.Headers.{own_header, header_named, scalar_text, value_named, scalar_at}
 use Rattle.delta.specs.inner.Kept.{IsHeaderSet, IsScalarSet}
-use Rattle.std.proofs.lemmas.Option.{none-some, same_Some}
 
 -- the name of a header member
 abbrev pub header_name : Header → List ℕ

@@ -3,6 +3,7 @@ use Rattle.std.proofs.Common.{◌≡◌, ◌≢◌, ℕ, ◌+◌, ◌*◌, ◌==
 use Rattle.std.specs.List.{AllByRecursion, flat_map, join_with_byte}
 use Rattle.std.proofs.lemmas.Bool.{agree_below_at, cases_lt, and_parts, not-true, or_cases}
 use Rattle.std.proofs.lemmas.Bool.Decides.{nat_tests}
+use Rattle.std.proofs.lemmas.Option.{same_Some}
 use Rattle.json_text.specs.Characters.{quote, quoted_byte, hex_value}
 use Rattle.json_text.specs.Compact.{Member as Pair, member_text, object_text}
 use Rattle.json_text.specs.Members.{pairs}
@@ -20,7 +21,6 @@ use Rattle.delta.specs.Headers.{value_named}
 use Rattle.delta.specs.Rest.{with_value}
 use Rattle.delta.proofs.RestLaws.{risen, each-with_value, named-with_value, sorted-with_value, with_value-back, rises, rising-with_value}
 use Rattle.frac_keys.specs.Rising.{are_rising}
-use Rattle.std.proofs.lemmas.Option.{same_Some}
 
 -- ---- how a byte stands in a quote
 data Coded (c : ℕ) : List ℕ → Type 0 where

@@ -5,9 +5,9 @@ use Rattle.std.proofs.lemmas.Bool.{cases_Bool, and_parts, and_from}
 use Rattle.std.proofs.lemmas.Bool.Decides.{nat_tests}
 use Rattle.std.proofs.lemmas.List.{append-nil, take_more}
 use Rattle.std.proofs.lemmas.List.Elements.{filter-append}
+use Rattle.std.proofs.Math.Bool.{or-true}
 use Rattle.json_text.specs.FirstOccurrences.{first_occurrences}
 use Rattle.delta.specs.Joined.{are_same, is_in}
-use Rattle.std.proofs.Math.Bool.{or-true}
 
 -- ---- lists that are the same
 module _ {T : Type 0} (same : T → T → Bool) where

@@ -4,6 +4,7 @@ use Rattle.std.proofs.lemmas.List.Elements.{Contains-append_left, Contains-push,
 use Rattle.frac_keys.specs.Keys.{bytes_less}
 use Rattle.delta.specs.Delta.{Delta}
 use Rattle.frac_keys.specs.Rising.{are_rising}
+use Rattle.json_text.proofs.CallerLemmas.{Contains-map, Contains-to_map}
 use Rattle.elem.specs.ElementValue.{ElementValue}
 use Rattle.elem.specs.Order.{unstamped}
 use Rattle.delta.specs.declared.header.Header.{Header}
@@ -15,7 +16,6 @@ use Rattle.delta.proofs.PartLaws.{part-once, turned, change-inverted, scalar-tur
 use Rattle.delta.proofs.Placing.{same_members}
 use Rattle.delta.specs.Pairs.{Pair, IsChanged, IsUnchanged, IsPartOf, EntryStandsFor, IsSamePair, HasSamePairs, exchanged}
 use Rattle.delta.proofs.RisingIds.{rising-push}
-use Rattle.json_text.proofs.CallerLemmas.{Contains-map, Contains-to_map}
 
 module _ (parts : List Delta) (pairs : List Pair) (pair : Pair) (stands : EntryStandsFor parts pairs) where
   -- a changed pair behind those of lesser ids has a part behind the parts

@@ -2,6 +2,9 @@
 use Rattle.std.proofs.Common.{◌≡◌, ℕ, Bool, true, false, cond, ◌||◌, List, [], ◌∷◌, ◌++◌, filter, map, Option, Some, None, IfSome, inl, inr, codes, bytes_eq, if◌then◌else◌, refl, sym, ap, ◌∙◌, ◌⊎◌}
 use Rattle.std.specs.List.{AllByRecursion, list_any}
 use Rattle.std.proofs.lemmas.Bool.{cases_Bool, false≢true}
+use Rattle.std.proofs.lemmas.Option.{same_Some}
+use Rattle.std.proofs.Math.Bool.{or-true}
+use Rattle.std.specs.Cmp.Lexicographic.{nat_list_eq_equiv}
 use Rattle.json_text.specs.declared.text.Member.{Member}
 use Rattle.json_text.proofs.CallerLemmas.{bytes_eq-true, bytes_eq-same, bytes_eq-apart}
 use Rattle.elem.specs.declared.kind.Kind.{Kind}
@@ -19,6 +22,7 @@ use Rattle.delta.specs.declared.header.Header.TheVariants as headers
 use Rattle.delta.specs.Applied.{IsApplied, scalar_after, groups_after, bound_after}
 use Rattle.delta.specs.Delta.{Delta}
 use Rattle.elem.specs.Listings.{same_listing_entry-exact, same_listing_entry-same, same_listing_entry}
+use Rattle.elem.proofs.CallerLemmas.{each-list_any, list_any-each}
 use Rattle.delta.specs.Facts.{name_of}
 use Rattle.delta.specs.Headers.{own_header, header_named, scalar_text, value_named, scalar_at, scalar_of}
 use Rattle.json_text.specs.FirstOccurrences.{first_occurrences}
@@ -31,10 +35,6 @@ use Rattle.delta.proofs.JoinLaws.{are_same-exact, are_same-same}
 use Rattle.delta.proofs.Placing.{same_items}
 use Rattle.delta.proofs.RestLaws.{risen, same_values}
 use Rattle.delta.proofs.ToldLaws.{not-named}
-use Rattle.elem.proofs.CallerLemmas.{each-list_any, list_any-each}
-use Rattle.std.proofs.lemmas.Option.{same_Some}
-use Rattle.std.proofs.Math.Bool.{or-true}
-use Rattle.std.specs.Cmp.Lexicographic.{nat_list_eq_equiv}
 use Rattle.delta.proofs.ChangeLaws.{name-inverted}
 
 -- ---- inverting

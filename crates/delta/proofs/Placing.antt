@@ -5,12 +5,12 @@ use Rattle.std.specs.Option.{option_map_or}
 use Rattle.std.specs.List.{AllByRecursion}
 use Rattle.std.specs.List.Sorted.{IsPartitionedBy}
 use Rattle.std.proofs.lemmas.Bool.{cases_Bool, false≢true, and_parts, and_from}
+use Rattle.std.proofs.lemmas.Option.{none-some, same_Some}
 use Rattle.json_text.proofs.CallerLemmas.{bytes_eq-true, bytes_eq-same, bytes_eq-flip}
 use Rattle.frac_keys.specs.Keys.{bytes_less}
 use Rattle.frac_keys.specs.Rising.{ends_rise, rise_between, are_rising}
-use Rattle.delta.specs.Placed.{item_of, with_item}
 use Rattle.frac_keys.proofs.CallerLemmas.{bytes_less-trans, bytes_less-asym, bytes_less-turned, bytes_eq-less}
-use Rattle.std.proofs.lemmas.Option.{none-some, same_Some}
+use Rattle.delta.specs.Placed.{item_of, with_item}
 
 more-apart : (a b : List ℕ) → bytes_less b a ≡ true → bytes_eq a b ≡ false
 more-apart a b l = bytes_eq-flip b a (bytes_eq-less b a l)

@@ -12,12 +12,12 @@ use Rattle.json_text.proofs.CallerLemmas.{bytes_eq-true, bytes_eq-same, bytes_eq
 use Rattle.scene_json.proofs.CallerLemmas.{names-pairs, pairs-each}
 use Rattle.frac_keys.specs.Keys.{bytes_less}
 use Rattle.frac_keys.specs.Rising.{are_rising}
+use Rattle.frac_keys.proofs.CallerLemmas.{bytes_less-trans, bytes_less_itself, bytes_less-asym, bytes_less-turned}
 use Rattle.elem.specs.Facts.{names}
 use Rattle.elem.proofs.CallerLemmas.{IsRising, IsRising-from, are_rising-from, AllByRecursion-weaker}
 use Rattle.elem.specs.Texts.{with_member, sorted_members}
 use Rattle.delta.specs.Headers.{value_named}
 use Rattle.delta.specs.Rest.{value_if, made, without_first, with_value}
-use Rattle.frac_keys.proofs.CallerLemmas.{bytes_less-trans, bytes_less_itself, bytes_less-asym, bytes_less-turned}
 
 -- names that rise, by recursion
 pub risen : (ms : List Member) → are_rising (names ms) ≡ true → IsRising (pairs ms)

@@ -3,6 +3,7 @@ use Rattle.std.proofs.Common.{◌≡◌, ℕ, zero, suc, ◌<◌, length, take, 
 use Rattle.std.specs.List.{AllByRecursion, list_any}
 use Rattle.std.proofs.lemmas.Bool.{cases_Bool, false≢true, or_parts}
 use Rattle.std.proofs.lemmas.List.Folds.{list_any-append}
+use Rattle.std.proofs.Math.Bool.{or-true, or-false}
 use Rattle.json_text.specs.Value.{IsCompact}
 use Rattle.json_text.specs.declared.text.Member.{Member}
 use Rattle.json_text.proofs.CallerLemmas.{bytes_eq-true, bytes_eq-same}
@@ -22,7 +23,6 @@ use Rattle.delta.specs.Parts.{change_of, scalar_change, groups_change, bound_cha
 use Rattle.delta.specs.inner.Told.{change_between, with_change, AreChangesOf, AreAllChanges}
 use Rattle.delta.proofs.HeaderLaws.{header_name, named}
 use Rattle.delta.proofs.Placing.{item-put, rising-put, each-put}
-use Rattle.std.proofs.Math.Bool.{or-true, or-false}
 
 -- a change, if it is one, is of the member of this name in elements of the kind
 abbrev pub IsOf : ElementValue → List ℕ → Option Change → Type 0

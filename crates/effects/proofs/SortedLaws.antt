@@ -14,12 +14,12 @@ use Rattle.elem.specs.Order.{has_id, HaveDistinctIds}
 use Rattle.elem.proofs.CallerLemmas.{AllByRecursion-append}
 use Rattle.frac_keys.specs.Keys.{bytes_less}
 use Rattle.frac_keys.specs.Rising.{are_rising, rise_between}
+use Rattle.frac_keys.proofs.CallerLemmas.{bytes_less-turned}
 use Rattle.elem_store.specs.Updates.{element_of, ids_of}
 use Rattle.elem_store.proofs.CallerLemmas.{Contains-cons, Contains-head, find-Some, member, same_elements, same_id}
 use Rattle.view.proofs.CallerLemmas.{HaveDistinctIds-permuted, HaveDistinctIds-rising}
 use Rattle.effects.specs.Changed.{with_created}
 use Rattle.effects.proofs.CreatedLaws.{AreApart, absent-parts, some-or-none, created-cases, created-kept, created-rises, created-there}
-use Rattle.frac_keys.proofs.CallerLemmas.{bytes_less-turned}
 
 abbrev pub lower : ElementValue → ElementValue → Bool
 lower e other = is_lt (slice_cmp nat_cmp e.id other.id)

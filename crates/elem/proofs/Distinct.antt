@@ -13,6 +13,7 @@ use Rattle.json_text.proofs.CallerLemmas.{name_of, names_of, none_passes}
 use Rattle.scene_json.proofs.CallerLemmas.{names-pairs}
 use Rattle.frac_keys.specs.Keys.{bytes_less}
 use Rattle.frac_keys.specs.Rising.{are_rising}
+use Rattle.frac_keys.proofs.CallerLemmas.{bytes_eq-less}
 use Rattle.elem.specs.declared.kind.Kind.{Kind}
 use Rattle.elem.specs.declared.kind.Kind.TheVariants.{Rectangle, Diamond, Ellipse, Arrow, Line, Freedraw, Text, Image, Frame, Magicframe, Iframe, Embeddable, Other}
 use Rattle.elem.specs.declared.parts.Binding.{Binding}
@@ -20,7 +21,6 @@ use Rattle.elem.specs.ElementValue.{ElementValue}
 use Rattle.elem.specs.Facts.{IsElement, IsBinding, header_names, own_names, is_header, names}
 use Rattle.elem.specs.Texts.{header_members, own_members}
 use Rattle.elem.proofs.Sorting.{IsRising, IsRising-from}
-use Rattle.frac_keys.proofs.CallerLemmas.{bytes_eq-less}
 
 -- ---- lists of names
 

@@ -4,6 +4,9 @@ use Rattle.std.specs.List.{AllByRecursion, list_any}
 use Rattle.std.proofs.lemmas.Bool.{or_parts, both_ways}
 use Rattle.std.proofs.lemmas.Map.Entries.{lookup_tail}
 use Rattle.std.specs.Prelude.{if◌then◌else◌}
+use Rattle.std.specs.Cmp.Lexicographic.{slice_cmp}
+use Rattle.std.specs.Ordering.{is_lt, nat_cmp}
+use Rattle.std.specs.declared.cmp.Ordering.TheVariants.{Less}
 use Rattle.json_text.specs.Characters.{quote}
 use Rattle.json_text.specs.Tree.{null_word, true_word, false_word}
 use Rattle.json_text.specs.Compact.{Member as Pair, array_text}
@@ -25,9 +28,6 @@ use Rattle.elem.specs.Forms.{Find, IsText, IsKindName, IsWholeNumber, IsTruth, I
 use Rattle.elem.specs.Texts.{kind_name, role_name}
 use Rattle.elem.proofs.Once.{array-once, object-once}
 use Rattle.elem.proofs.Sorting.{IsRising, IsRising-from}
-use Rattle.std.specs.Cmp.Lexicographic.{slice_cmp}
-use Rattle.std.specs.Ordering.{is_lt, nat_cmp}
-use Rattle.std.specs.declared.cmp.Ordering.TheVariants.{Less}
 
 -- ---- texts, numbers, truths
 pub text-once : (found : Option (List ℕ)) (a b : List ℕ) → IsText found a → IsText found b → a ≡ b

@@ -1,10 +1,10 @@
 -- What `beats` is: a strict order by version, nonce and text.
 use Rattle.std.proofs.Common.{◌≡◌, true, false, sym, subst, arith}
 use Rattle.std.proofs.lemmas.Bool.Decides.{nat_tests}
+use Rattle.frac_keys.proofs.CallerLemmas.{bytes-below, bytes-neither, bytes_less-asym, bytes_less-trans, bytes_less_itself}
 use Rattle.elem.specs.ElementValue.{ElementValue}
 use Rattle.elem.specs.Order.{text_less, beats}
 use Rattle.elem.specs.Texts.{element_text}
-use Rattle.frac_keys.proofs.CallerLemmas.{bytes-below, bytes-neither, bytes_less-asym, bytes_less-trans, bytes_less_itself}
 
 -- ---- the order of texts
 less-same : (a : ElementValue) → text_less a a ≡ false

@@ -312,7 +312,8 @@ all-are : (e : ElementValue) → IsElement e → HasValidTexts e → AreMembers 
 all-are e is w = record {
   named = AllByRecursion-append (λ (m : Pair). IsUtf8 m.0) (header_members e) (pairs e.rest) (header-named e)
       (names-named e.rest w.rest);
-  valued = AllByRecursion-append (λ (m : Pair). IsCompact 119 m.1) (header_members e) (pairs e.rest) (header-valued e is w)
+  valued =
+      AllByRecursion-append (λ (m : Pair). IsCompact 119 m.1) (header_members e) (pairs e.rest) (header-valued e is w)
       (values-valued 119 e.rest is.nest);
   distinct = IsDistinct-element e is;
 }

@@ -9,8 +9,8 @@ use Rattle.json_text.specs.Compact.{Member as Pair}
 use Rattle.json_text.proofs.CallerLemmas.{names_of}
 use Rattle.frac_keys.specs.Keys.{bytes_less}
 use Rattle.frac_keys.specs.Rising.{are_rising, rise_between}
-use Rattle.elem.specs.Texts.{with_member, sorted_members}
 use Rattle.frac_keys.proofs.CallerLemmas.{bytes_less-asym, bytes_less-trans, bytes_less-turned, bytes_less_itself}
+use Rattle.elem.specs.Texts.{with_member, sorted_members}
 
 -- Each name is less than those after it.
 abbrev pub IsRising : List Pair → Type 0

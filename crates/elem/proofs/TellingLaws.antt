@@ -5,11 +5,11 @@ use Rattle.std.proofs.lemmas.List.{take_more}
 use Rattle.elem.proofs.Distinct.{AllByRecursion-append}
 use Rattle.std.specs.Str.{IsUtf8}
 use Rattle.json_text.specs.declared.text.Member.{Member}
+use Rattle.json_text.proofs.CallerLemmas.{ascii-utf8}
 use Rattle.elem.specs.Facts.{names}
 use Rattle.elem.specs.declared.kind.Kind.{Kind}
 use Rattle.elem.specs.declared.kind.Kind.TheVariants as kinds
 use Rattle.elem.specs.Texts.{kind_name}
-use Rattle.json_text.proofs.CallerLemmas.{ascii-utf8}
 
 -- one more item
 pub each-more : {X : Type 0} (P : X → Type 0) (xs : List X) (i : ℕ) (x : X) → x ≡ get_or xs i x → i < length xs

@@ -3,6 +3,7 @@ use Rattle.std.proofs.Common.{◌≡◌, ◌≢◌, ◌⊎◌, inl, inr, ℕ, ze
 use Rattle.std.specs.List.{AllByRecursion, list_any}
 use Rattle.std.proofs.lemmas.Bool.{cases_Bool, cases_lt, or_parts, or_from, both_ways}
 use Rattle.std.proofs.lemmas.Map.Entries.{lookup_tail}
+use Rattle.std.proofs.lemmas.Option.{same_Some}
 use Rattle.json_text.specs.Characters.{quote}
 use Rattle.json_text.specs.Compact.{Member as Pair, array_text, object_text}
 use Rattle.json_text.specs.Members.{pairs}
@@ -27,7 +28,6 @@ use Rattle.elem.proofs.CallerLemmas.{text-once, members-once, array-once}
 use Rattle.elem_read.proofs.Keeping.{found-has}
 use Rattle.elem_read.proofs.Others.{kept-others}
 use Rattle.elem_read.proofs.Parts.{no-binding}
-use Rattle.std.proofs.lemmas.Option.{same_Some}
 
 -- Something has the property, or nothing has.
 abbrev pub Decided : {A : Type 0} → (A → Type 0) → Type 0
@@ -74,7 +74,8 @@ null-or-not (Some v) = elim (cases_Bool (bytes_eq v null_word)) [
     by : bytes_eq v null_word ≡ false → IsNull (Some v) → ⊥
     by e (inl none) = cc
     by e (inr null) =
-        both_ways (bytes_eq v null_word) e (ap (λ x. bytes_eq x null_word) (same_Some _ _ null) ∙ bytes_eq-same null_word)
+        both_ways (bytes_eq v null_word) e (ap (λ x. bytes_eq x null_word) (same_Some _ _ null)
+        ∙ bytes_eq-same null_word)
 
 pub text_or_null-or-not : (found : Option (List ℕ)) → Fits found → Decided (IsTextOrNull found)
 text_or_null-or-not found fits = by (text-or-not found fits) (null-or-not found)
@@ -213,7 +214,8 @@ truth-or-not (Some v) = by (cases_Bool (bytes_eq v true_word)) (cases_Bool (byte
     neither a b true is =
         both_ways (bytes_eq v true_word) a (ap (λ x. bytes_eq x true_word) (same_Some _ _ is) ∙ bytes_eq-same true_word)
     neither a b false is =
-        both_ways (bytes_eq v false_word) b (ap (λ x. bytes_eq x false_word) (same_Some _ _ is) ∙ bytes_eq-same false_word)
+        both_ways (bytes_eq v false_word) b (ap (λ x. bytes_eq x false_word) (same_Some _ _ is)
+        ∙ bytes_eq-same false_word)
 
     by : (bytes_eq v true_word ≡ true) ⊎ (bytes_eq v true_word ≡ false) → (bytes_eq v false_word ≡ true)
         ⊎ (bytes_eq v false_word ≡ false) → Decided (IsTruth (Some v))

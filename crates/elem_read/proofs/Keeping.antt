@@ -106,7 +106,8 @@ binding-kept found binding nests is =
 binding-written : (found : Option (List ℕ)) (binding : Binding) → IsBindingObject found binding → IsBindingText binding
 binding-written found binding is = record {
   target = is.target.0;
-  rest = names-each IsUtf8 binding.rest (others-hold IsNamed (bytes_eq (codes "elementId")) (find_in is.members) binding.rest
+  rest = names-each IsUtf8 binding.rest (others-hold IsNamed (bytes_eq (codes "elementId")) (find_in is.members)
+      binding.rest
       (found-has IsNamed is.members is.object.are_members.named) is.rest);
 }
 

@@ -62,7 +62,8 @@ nest-given value ms object each =
     (record {
       named = are.named;
       valued =
-          pairs-each (λ (m : Pair). IsCompact 119 m.1) ms (recursion_from_All (λ (m : Member). IsCompact 119 m.value) ms each);
+          pairs-each (λ (m : Pair). IsCompact 119 m.1) ms (recursion_from_All (λ (m : Member). IsCompact 119 m.value) ms
+          each);
       distinct =
           are.distinct;
     }))

@@ -82,7 +82,8 @@ get-later [] later place l = absurd (omega arith)
 get-later (x ∷ elements) later zero l = refl
 get-later (x ∷ elements) later (suc place) l = get-later elements later place (omega arith)
 
-pub get-last : (elements : List ElementValue) (e : ElementValue) → slice_get (elements ++ e ∷ []) (length elements) ≡ Some e
+pub get-last : (elements : List ElementValue) (e : ElementValue) → slice_get (elements ++ e ∷ []) (length elements)
+    ≡ Some e
 get-last [] e = refl
 get-last (x ∷ elements) e = get-last elements e
 

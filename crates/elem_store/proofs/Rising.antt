@@ -5,12 +5,12 @@ use Rattle.std.proofs.lemmas.List.Elements.{Contains-get_or}
 use Rattle.std.proofs.lemmas.Option.{none-some}
 use Rattle.frac_keys.specs.Keys.{bytes_less}
 use Rattle.frac_keys.specs.Rising.{ends_rise, rise_between, are_rising}
+use Rattle.frac_keys.proofs.CallerLemmas.{bytes_less_itself, bytes_less-trans}
 use Rattle.elem.specs.ElementValue.{ElementValue}
 use Rattle.elem.specs.Order.{has_id}
 use Rattle.elem_store.specs.Updates.{element_of, ids_of}
 use Rattle.elem_store.proofs.Ids.{same_id, of_itself, of_other}
 use Rattle.elem_store.proofs.Lists.{Contains-cases, find-Some, find-None}
-use Rattle.frac_keys.proofs.CallerLemmas.{bytes_less_itself, bytes_less-trans}
 
 -- a lesser id is another one
 pub less-other : (a b : List ℕ) → bytes_less a b ≡ true → a ≡ b → ⊥

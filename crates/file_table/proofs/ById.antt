@@ -10,10 +10,10 @@ use Rattle.json_text.specs.Value.{IsCompact}
 use Rattle.scene_json.specs.Named.{value_at, HaveRisingNames}
 use Rattle.json_text.proofs.CallerLemmas.{bytes_eq-true}
 use Rattle.frac_keys.specs.Keys.{bytes_less}
+use Rattle.frac_keys.proofs.CallerLemmas.{bytes_less_itself}
 use Rattle.elem.specs.Texts.{with_member, sorted_members}
 use Rattle.elem.proofs.CallerLemmas.{IsRising-sorted, IsPermutation-sorted, same_rising, AllByRecursion-sorted, names-rising, rising-names}
 use Rattle.file_table.specs.Table.{EntriesNest}
-use Rattle.frac_keys.proofs.CallerLemmas.{bytes_less_itself}
 
 -- ---- look-ups
 apart-below : (q id other : List ℕ) → bytes_eq q other ≡ true → bytes_less other id ≡ true → bytes_eq q id ≡ false

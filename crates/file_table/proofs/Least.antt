@@ -6,13 +6,13 @@ use Rattle.std.proofs.lemmas.List.Elements.{Contains-append_left, Contains-appen
 use Rattle.std.proofs.lemmas.Slice.Eq.{bytes_eq-Decides}
 use Rattle.json_text.specs.Compact.{Member as Pair}
 use Rattle.json_text.specs.Parts.{names_of}
+use Rattle.json_text.proofs.CallerLemmas.{bytes_eq-true}
 use Rattle.scene_json.specs.Named.{value_at, HaveRisingNames}
 use Rattle.scene_json.proofs.CallerLemmas.{rising_distinct, rising_same, rising_none}
 use Rattle.frac_keys.specs.Keys.{bytes_less}
+use Rattle.frac_keys.proofs.CallerLemmas.{bytes_less_itself, bytes-neither}
 use Rattle.file_table.specs.Table.{lesser, lesser_of, least_entry, IsLeast, AreLeastEntries}
 use Rattle.file_table.proofs.Lesser.{less_order, lesser_either, lesser_of-either}
-use Rattle.json_text.proofs.CallerLemmas.{bytes_eq-true}
-use Rattle.frac_keys.proofs.CallerLemmas.{bytes_less_itself, bytes-neither}
 
 -- ---- of two lists joined end to end
 pub least-append : (given others : List Pair) (id : List ℕ)

@@ -7,6 +7,7 @@ use Rattle.indexmap.specs.IndexMap.{insert_entry}
 use Rattle.json_text.specs.Compact.{Member as Pair}
 use Rattle.json_text.specs.Parts.{names_of}
 use Rattle.json_text.specs.Value.{IsCompact}
+use Rattle.json_text.proofs.CallerLemmas.{bytes_eq-true}
 use Rattle.scene_json.specs.Named.{value_at, HaveRisingNames}
 use Rattle.frac_keys.specs.Keys.{bytes_less}
 use Rattle.file_table.specs.Table.{takes_place, least_entry, AreLeastEntries, EntriesNest, HaveFiles}
@@ -14,7 +15,6 @@ use Rattle.elem.specs.Texts.{sorted_members}
 use Rattle.file_table.proofs.ById.{value-by_id, rising-by_id}
 use Rattle.file_table.proofs.Lesser.{lesser_either, lesser_either-none}
 use Rattle.file_table.proofs.Least.{least-append, least-own}
-use Rattle.json_text.proofs.CallerLemmas.{bytes_eq-true}
 
 -- what the table and the one entry have for an id
 least-one : (old : List Pair) (id entry : List ℕ) (q : List ℕ) → HaveRisingNames old

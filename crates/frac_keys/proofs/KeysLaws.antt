@@ -86,7 +86,8 @@ none : (a b : Option (List ℕ)) → ends_rise a b ≡ true → AreBetween a b 0
 none a b h = record { count = refl; are_keys = refl; rise = h }
 
 -- keys up to a key, the key, and keys from it on
-pub AreBetween-join : {a b : Option (List ℕ)} {m n : ℕ} {xs : List (List ℕ)} {k : List ℕ} {ys : List (List ℕ)} (total : ℕ)
+pub AreBetween-join : {a b : Option (List ℕ)} {m n : ℕ} {xs : List (List ℕ)} {k : List ℕ} {ys : List (List ℕ)}
+    (total : ℕ)
     → m + n + 1 ≡ total → is_key k ≡ true
     → AreBetween a (Some k) m xs → AreBetween (Some k) b n ys → AreBetween a b total (xs ++ k ∷ ys)
 AreBetween-join {a} {b} {m} {n} {xs} {k} {ys} total e key h l = record {

@@ -8,6 +8,7 @@ use Rattle.board_base.specs.declared.stop.Stop.{Stop}
 use Rattle.board_base.specs.declared.stop.Stop.TheVariants.{Fault, Memory}
 use Rattle.frac_keys.specs.Keys.{bytes_less}
 use Rattle.frac_keys.specs.Rising.{are_rising}
+use Rattle.json_text.proofs.CallerLemmas.{Contains-map}
 use Rattle.elem.specs.ElementValue.{ElementValue}
 use Rattle.elem.specs.Order.{unstamped, has_id}
 use Rattle.elem_store.specs.Updates.{HasTaken, element_of, is_taken}
@@ -22,7 +23,6 @@ use Rattle.delta.proofs.CallerLemmas.{entry-more, entry-none, applied-apart, ris
 use Rattle.history.proofs.PlanLaws.{reverse-cons}
 use Rattle.history.specs.Stacks.{OnFull, HasStepped, HasStoredIds, HaveStoredIds, with_entry, redo_left}
 use Rattle.history.specs.Steps.{stamped, IsNow, IsFull, IsFullId, IsLeastFull, PartHasGiven, IsGivenByPart, IsStep, ComesOf}
-use Rattle.json_text.proofs.CallerLemmas.{Contains-map}
 
 pub reverse-Contains : {X : Type 0} (xs : List X) (x : X) → Contains (reverse xs) x → Contains xs x
 reverse-Contains [] x c = absurd (omega (arith, c.1))

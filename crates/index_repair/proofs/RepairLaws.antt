@@ -30,7 +30,8 @@ filled-law above low run (Some key ∷ keys) top rise under h l =
     let u = and_parts (ends_rise (Some key) above) (are_below above keys) under in
     cond_both (ends_rise low (Some key)) (Some key ∷ kept_after (Some key) keys) (None ∷ kept_after low keys)
     (λ kept. AreBetween low above (run + suc (length keys)) (filled_after above low run kept))
-    (λ greater. AreBetween-join (run + suc (length keys)) (omega arith) p.0 (keys_between-law low (Some key) run h p.0 greater)
+    (λ greater. AreBetween-join (run + suc (length keys)) (omega arith) p.0
+    (keys_between-law low (Some key) run h p.0 greater)
     (filled-law above (Some key) 0 keys top u.0 u.1 p.0 p.1))
     (λ _. subst (λ n. AreBetween low above n (filled_after above low (suc run) (kept_after low keys))) (omega arith)
     (filled-law above low (suc run) keys top rise u.1 h p.1))

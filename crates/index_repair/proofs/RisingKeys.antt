@@ -5,9 +5,9 @@ use Rattle.std.proofs.lemmas.Bool.{and_from, and_parts, both_ways}
 use Rattle.std.proofs.lemmas.List.{drop_all, drop_more}
 use Rattle.frac_keys.specs.Keys.{is_key}
 use Rattle.frac_keys.specs.Rising.{ends_rise, is_key_or_none, rise_between}
+use Rattle.frac_keys.proofs.CallerLemmas.{ends_rise-none}
 use Rattle.elem.specs.ElementValue.{ElementValue}
 use Rattle.index_repair.specs.Keyed.{index_of, HaveKeysOrNone, HaveRisingKeys}
-use Rattle.frac_keys.proofs.CallerLemmas.{ends_rise-none}
 
 -- The keys of the elements rise exactly if those of the rest do, above the last key before it.
 pub record HaveRisenTo (elements : List ElementValue) (low : Option (List ℕ)) (rest : List ElementValue) : Type 0 where

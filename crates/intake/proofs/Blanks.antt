@@ -30,13 +30,6 @@ stands-begun bytes text rest s = false_from_ne_true (is_blank bytes) (λ all.
     both_ways (is_space head.first) (begins-no-space head.first head.begins)
     (and_parts (is_space head.first) (is_blank head.more) first).0)
 
-pub blank-not : (bytes : List ℕ) → prefix_len is_space bytes < length bytes → is_blank bytes ≡ false
-blank-not [] less = absurd (omega (arith, less))
-blank-not (b ∷ bytes) less = elim (cases_Bool (is_space b)) [
-  | inl e ↦ rw e (blank-not bytes (let more = rw e at less in omega (arith, more)))
-  | inr e ↦ rw e refl
-]
-
 -- the first further byte stands where it stood, whatever follows
 pub first-more : (xs ys : List ℕ) → prefix_len is_space xs < length xs
     → prefix_len is_space (xs ++ ys) ≡ prefix_len is_space xs

@@ -7,11 +7,11 @@ use Rattle.std.proofs.lemmas.List.Concat.{flat_map-append}
 use Rattle.std.specs.Char.{IsScalar, encode_utf8}
 use Rattle.std.specs.List.{AllByRecursion, list_all, position_or_len}
 use lib.Utf8.{scalar, scalars}
+use Rattle.std.specs.Prelude.{nat_lt}
+use Rattle.std.specs.Str.{IsAscii}
 use Rattle.json_text.specs.Characters.{hex_value, is_hex, is_plain, needs_escape, quote, quoted_byte}
 use Rattle.json_text.specs.Tree.{Piece, bare, letter, unit, IsPiece, piece_spelling, string_spelling}
 use Rattle.json_text.specs.Compact.{piece_value, is_high, is_low, paired, lone, characters, content}
-use Rattle.std.specs.Prelude.{nat_lt}
-use Rattle.std.specs.Str.{IsAscii}
 
 -- a text of ASCII alone
 ascii-bytes : (text : List ℕ) → list_all (λ b. nat_lt b 128) text ≡ true → IsAscii text

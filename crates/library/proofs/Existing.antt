@@ -9,6 +9,7 @@ use Rattle.scene_json.specs.Named.{value_at}
 use Rattle.elem.specs.Forms.{IsId, IsObject, IsTextOrNull}
 use Rattle.elem_read.proofs.CallerLemmas.{Decided, fits-in, read-or-faulty, id-or-not, text_or_null-or-not}
 use Rattle.elem.specs.ElementValue.{ElementValue}
+use Rattle.scene_file.proofs.CallerLemmas.{is-text}
 use Rattle.clips.specs.Placed.{elements_in, first_repeat, AreReadFrom}
 use Rattle.clips.specs.declared.placed.Placed.{Placed}
 use Rattle.clips.proofs.CallerLemmas.{placed-of}
@@ -20,7 +21,6 @@ use Rattle.library.specs.declared.fault.LibFault.TheVariants as library
 use Rattle.library.specs.declared.item.Item.{Item}
 use Rattle.library.proofs.ItemForms.{array_of-or-not, status-or-not, time-or-not}
 use Rattle.library.proofs.ItemOnce.{first-among, first-created, first-elements, first-id, first-name, first-status, members-fault}
-use Rattle.scene_file.proofs.CallerLemmas.{is-text}
 
 -- ---- elements
 abbrev ElementsTold : List (List ℕ) → Type 0

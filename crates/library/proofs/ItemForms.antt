@@ -10,9 +10,9 @@ use Rattle.scene_json.proofs.CallerLemmas.{digit_of_decimal}
 use Rattle.elem.specs.Forms.{IsNull, IsText, IsWholeNumber}
 use Rattle.elem.proofs.CallerLemmas.{array-once, null-no-text, text-once, whole-once}
 use Rattle.elem_read.proofs.CallerLemmas.{Decided, Fits, whole-or-not, null-or-not}
+use Rattle.scene_file.proofs.CallerLemmas.{is-text}
 use Rattle.library.specs.Items.{status_word}
 use Rattle.library.specs.Reading.{IsArray, IsStatus, IsTime}
-use Rattle.scene_file.proofs.CallerLemmas.{is-text}
 
 -- ---- one thing alone
 word-text : (found : Option (List ℕ)) (published : Bool) → found ≡ Some (quote (status_word published))

@@ -4,13 +4,13 @@ use Rattle.std.proofs.lemmas.List.{take_more}
 use Rattle.board_base.specs.declared.stop.Stop.TheVariants.{Fault}
 use Rattle.json_text.specs.Characters.{quote}
 use Rattle.json_text.specs.Compact.{Member as Pair}
+use Rattle.json_text.proofs.CallerLemmas.{ascii-utf8}
 use Rattle.scene_json.specs.Named.{value_at}
 use Rattle.elem_read.proofs.CallerLemmas.{stopped}
 use Rattle.library.specs.Reading.{AreItemsIn, IsFirstFaultyItem, IsItemFault, IsItemIn, IsLibrary}
 use Rattle.library.specs.declared.fault.ItemFault.{ItemFault}
 use Rattle.library.specs.declared.fault.LibFault.{LibFault}
 use Rattle.library.specs.declared.item.Item.{Item}
-use Rattle.json_text.proofs.CallerLemmas.{ascii-utf8}
 
 pub is-library : (members : List Pair) → value_at (codes "type") members ≡ Some (quote (codes "excalidrawlib"))
     → IsLibrary members

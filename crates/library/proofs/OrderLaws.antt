@@ -1,10 +1,10 @@
 -- What `is_better` is: a strict order by the time and the text.
 use Rattle.std.proofs.Common.{◌≡◌, true, false, arith}
 use Rattle.std.proofs.lemmas.Bool.Decides.{nat_tests}
+use Rattle.frac_keys.proofs.CallerLemmas.{bytes-below, bytes-neither, bytes_less-asym, bytes_less_itself, bytes_less-trans}
 use Rattle.library.specs.Best.{is_better, text_less}
 use Rattle.library.specs.Items.{item_text}
 use Rattle.library.specs.declared.item.Item.{Item}
-use Rattle.frac_keys.proofs.CallerLemmas.{bytes-below, bytes-neither, bytes_less-asym, bytes_less_itself, bytes_less-trans}
 
 -- ---- the order of texts
 less-same : (a : Item) → text_less a a ≡ false

@@ -239,7 +239,10 @@ items-read (item ∷ items) whole =
 
 library-are : (items : List Item) → All IsWholeItem items → AreMembers 127 (library_members items)
 library-are items whole = record {
-  named = (ascii-utf8 (codes "type") refl, (ascii-utf8 (codes "version") refl, (ascii-utf8 (codes "libraryItems") refl, tt)));
+  named = (
+    ascii-utf8 (codes "type") refl,
+    (ascii-utf8 (codes "version") refl, (ascii-utf8 (codes "libraryItems") refl, tt)),
+  );
   valued = (
     quote-compact 127 (codes "excalidrawlib") (ascii-utf8 (codes "excalidrawlib") refl),
     (

@@ -4,6 +4,7 @@ use Rattle.std.specs.Option.{option_map}
 use Rattle.std.proofs.lemmas.Bool.{false≢true}
 use Rattle.std.proofs.lemmas.Option.{none-some, same_Some}
 use Rattle.frac_keys.specs.Rising.{are_rising}
+use Rattle.json_text.proofs.CallerLemmas.{Contains-map, Contains-to_map}
 use Rattle.elem.specs.ElementValue.{ElementValue}
 use Rattle.elem.specs.Order.{unstamped, has_id}
 use Rattle.elem_store.specs.Updates.{element_of, ids_of}
@@ -13,7 +14,6 @@ use Rattle.view.specs.Shown.{is_live, live_elements, shown}
 use Rattle.view.proofs.CallerLemmas.{live_elements-rise, stamps-play_no_part}
 use Rattle.replica.specs.Back.{AgreesWith}
 use Rattle.replica.proofs.Leading.{SameAs, bare_of, some-bare}
-use Rattle.json_text.proofs.CallerLemmas.{Contains-map, Contains-to_map}
 
 pub agrees-itself : (elements : List ElementValue) → AgreesWith elements elements
 agrees-itself elements = record {

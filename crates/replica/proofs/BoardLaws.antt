@@ -3,6 +3,7 @@ use Rattle.std.proofs.Common.{◌≡◌, ◌≢◌, ◌↔◌, Bool, true, false
 use Rattle.std.proofs.lemmas.Bool.{true_from_ne_false}
 use Rattle.std.proofs.lemmas.List.Elements.{All-nil}
 use Rattle.frac_keys.specs.Rising.{are_rising}
+use Rattle.json_text.proofs.CallerLemmas.{Contains-map}
 use Rattle.elem.specs.ElementValue.{ElementValue}
 use Rattle.elem.specs.Facts.{IsElement}
 use Rattle.elem.specs.Said.{HasValidTexts, AreElements}
@@ -23,7 +24,6 @@ use Rattle.replica.specs.Boards.{Told, ToldStandsFor, IsSound, IsTold, HasTakenA
 use Rattle.replica.specs.State as state
 use Rattle.replica.specs.State.{State}
 use Rattle.replica.proofs.StoredLaws.{ids-kept, stack-kept, carried-known, element-some}
-use Rattle.json_text.proofs.CallerLemmas.{Contains-map}
 
 -- a board whose parts are these
 pub told-is : (t : Told) (stored view snapshot : List ElementValue) (stacks : Stacks) → t.stored ≡ stored

@@ -4,6 +4,7 @@ use Rattle.std.specs.Option.{option_map}
 use Rattle.std.proofs.lemmas.Bool.{cases_Bool, false≢true, both_ways}
 use Rattle.std.proofs.lemmas.Option.{none-some, same_Some}
 use Rattle.frac_keys.specs.Rising.{are_rising}
+use Rattle.json_text.proofs.CallerLemmas.{Contains-map, Contains-to_map}
 use Rattle.elem.specs.ElementValue.{ElementValue}
 use Rattle.elem.specs.Order.{unstamped, has_id}
 use Rattle.elem.specs.Said.{AreElements}
@@ -21,7 +22,6 @@ use Rattle.replica.specs.State.{State, noted, stored_with}
 use Rattle.replica.proofs.Agreeing.{agrees-itself}
 use Rattle.replica.proofs.Leading.{bare_of, some-bare, Meets, Leads, IsApart, IsVisible}
 use Rattle.replica.proofs.TakenAt.{taken-at, taken-else}
-use Rattle.json_text.proofs.CallerLemmas.{Contains-map, Contains-to_map}
 
 -- ---- the pairs between a snapshot and what is stored
 module _ (snap stored : List ElementValue) (are : AreElements snap) (are' : AreElements stored)

@@ -4,6 +4,7 @@ use Rattle.std.proofs.lemmas.Bool.{cond-false, and_right}
 use Rattle.std.proofs.lemmas.Option.{same_Some}
 use Rattle.std.proofs.lemmas.List.{take_all}
 use Rattle.frac_keys.specs.Rising.{are_rising}
+use Rattle.json_text.proofs.CallerLemmas.{Contains-map}
 use Rattle.elem.specs.ElementValue.{ElementValue}
 use Rattle.elem.specs.Order.{unstamped}
 use Rattle.elem.specs.Said.{AreElements}
@@ -22,7 +23,6 @@ use Rattle.replica.specs.State.{State, noted, stored_with, undo_on, redo_on, aft
 use Rattle.replica.proofs.Agreeing.{agrees-itself, agrees-same, same-bare, looks-same}
 use Rattle.replica.proofs.Changing.{pending-meets, none-agrees, leads-stored, new-elements, new-rising, new-alike, new-entry, new-visible, changed-state}
 use Rattle.replica.proofs.Ways.{IsWay, way-stepped, way-found}
-use Rattle.json_text.proofs.CallerLemmas.{Contains-map}
 
 -- ---- where nothing is pending, a capture leaves the stacks
 filter-none : {X : Type 0} (p : X → Bool) (xs : List X) → ((x : X) → Contains xs x → p x ≡ false) → filter p xs ≡ []

@@ -8,12 +8,12 @@ use Rattle.std.proofs.lemmas.List.Kept.{IsStrictlySortedBy-filter}
 use Rattle.std.proofs.lemmas.Map.Views.{any-filter_same}
 use Rattle.json_text.proofs.CallerLemmas.{bytes_eq-true}
 use Rattle.frac_keys.specs.Keys.{bytes_less}
+use Rattle.frac_keys.proofs.CallerLemmas.{bytes_less-trans, bytes_less-turned}
 use Rattle.elem.proofs.CallerLemmas.{AllByRecursion-weaker}
 use Rattle.delta.proofs.CallerLemmas.{each-put}
 use Rattle.reconcile.specs.Ids.{is_held, AreStrictlySorted, HasAdded, HasDropped}
 use Rattle.reconcile.proofs.CallerLemmas.{held-unique}
 use Rattle.session.specs.Worlds.{with_id, without_id}
-use Rattle.frac_keys.proofs.CallerLemmas.{bytes_less-trans, bytes_less-turned}
 
 abbrev itself : List ℕ → List ℕ
 itself id = id

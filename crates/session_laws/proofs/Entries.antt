@@ -5,6 +5,7 @@ use Rattle.std.specs.List.{cons_option, AllByRecursion}
 use Rattle.std.proofs.lemmas.Bool.{cases_Bool, and_parts, and_from, cond-true, cond-false}
 use Rattle.std.proofs.lemmas.Option.{none-some, same_Some}
 use Rattle.frac_keys.specs.Rising.{ends_rise, rise_between, are_rising}
+use Rattle.json_text.proofs.CallerLemmas.{Contains-map}
 use Rattle.elem.specs.ElementValue.{ElementValue}
 use Rattle.elem.specs.Order.{has_id}
 use Rattle.elem_store.specs.Updates.{element_of, ids_of}
@@ -15,7 +16,6 @@ use Rattle.undoing.specs.Differing.{is_changed, pending}
 use Rattle.undoing.specs.Entries.{pair_ids, IsGiven}
 use Rattle.undoing.specs.Steps.{is_seen, given_of, given, Sought, sought, Turn, step}
 use Rattle.undoing.proofs.CallerLemmas.{rise-lower, ids-from, pending-rise, given-each, step-turn, undone-stamp, ids-exchanged}
-use Rattle.json_text.proofs.CallerLemmas.{Contains-map}
 
 -- the pairs are of one id each, in the order of the ids; so are those of each entry of a stack
 pub record IsOrdered (pairs : List Pair) : Type 0 where

@@ -4,6 +4,7 @@ use Rattle.std.proofs.lemmas.Bool.{cases_Bool, both_ways, cond-true, cond-false}
 use Rattle.std.proofs.lemmas.Option.{none-some, same_Some}
 use Rattle.std.proofs.lemmas.List.Elements.{All-nil, All-cons, All-head, All-tail, All-filter}
 use Rattle.frac_keys.specs.Rising.{are_rising}
+use Rattle.json_text.proofs.CallerLemmas.{Contains-map}
 use Rattle.elem.specs.ElementValue.{ElementValue}
 use Rattle.elem.specs.Facts.{IsElement, greatest_whole}
 use Rattle.elem.specs.Said.{HasValidTexts, AreElements}
@@ -33,7 +34,6 @@ use Rattle.replica.specs.State.{State, nothing, noted, captured, stored_with, ca
 use Rattle.replica.proofs.CallerLemmas.{taken-at, taken-else}
 use Rattle.board_commands.specs.Written.{IsWrittenCommand}
 use Rattle.given_elements.proofs.CallerLemmas.{board-given}
-use Rattle.json_text.proofs.CallerLemmas.{Contains-map}
 
 -- something is stored of the id
 abbrev pub IsStoredIn : List ElementValue → List ℕ → Type 0

@@ -26,7 +26,8 @@ members-open members are =
     then-one _ _ (from-one 1 2 members names.Replica) (λ version is.
     then-one _ _ (from-one 0 64 members names.Number) (λ number also.
     then-one _ _ (whole-one members names.Seed) (λ seed too.
-    then-one _ _ (scene-one (value_unless_null (codes "scene") members) (fits-value_unless_null (codes "scene") members are))
+    then-one _ _ (scene-one (value_unless_null (codes "scene") members)
+    (fits-value_unless_null (codes "scene") members are))
     (λ scene last. gives-one _))))
 
 -- ---- the lines behind it

@@ -1,9 +1,9 @@
 -- What items pick, one after the other.
 use Rattle.std.proofs.Common.{◌≡◌, ℕ, zero, suc, ◌<◌, List, [], ◌∷◌, ◌++◌, length, take, get_or, refl, sym, ap, subst, arith}
+use Rattle.json_text.proofs.CallerLemmas.{take-next}
 use Rattle.elem_read.specs.Faults.{Lacks}
 use Rattle.session_text.specs.Forms.{IsPick, ArePicks}
 use Rattle.session_text.specs.declared.event.Pick.{Pick}
-use Rattle.json_text.proofs.CallerLemmas.{take-next}
 
 picks-push : (made : ℕ) (items : List (List ℕ)) (picks : List Pick) (item : List ℕ) (pick : Pick)
     → ArePicks made items picks → IsPick made item pick → ArePicks made (items ++ item ∷ []) (picks ++ pick ∷ [])

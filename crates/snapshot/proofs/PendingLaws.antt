@@ -4,12 +4,12 @@ use Rattle.std.proofs.lemmas.List.{map-append, take_more, get_or-take}
 use Rattle.std.proofs.lemmas.Option.{none-some, slice_get_within, get_or_from_slice_get}
 use Rattle.frac_keys.specs.Keys.{bytes_less}
 use Rattle.frac_keys.specs.Rising.{are_rising}
+use Rattle.json_text.proofs.CallerLemmas.{Contains-map}
 use Rattle.elem.specs.ElementValue.{ElementValue}
 use Rattle.delta.specs.Pairs.{Pair, pair_with}
 use Rattle.elem_store.specs.Updates.{element_of, ids_of}
 use Rattle.elem_store.proofs.CallerLemmas.{some_within, earlier_less}
 use Rattle.snapshot.specs.Pending.{pairs_since}
-use Rattle.json_text.proofs.CallerLemmas.{Contains-map}
 
 module _ (snapshot store : List ElementValue) (i : ℕ) (e : ElementValue) (at : slice_get store i ≡ Some e) where
   here : get_or store i e ≡ e

@@ -5,6 +5,7 @@ use Rattle.std.proofs.lemmas.Bool.{cond-true}
 use Rattle.std.proofs.lemmas.List.{take_more}
 use Rattle.std.proofs.lemmas.Option.{slice_get_within, get_or_from_slice_get}
 use Rattle.frac_keys.specs.Rising.{are_rising}
+use Rattle.json_text.proofs.CallerLemmas.{Contains-map, Contains-to_map}
 use Rattle.elem.specs.ElementValue.{ElementValue}
 use Rattle.elem.specs.Order.{unstamped, has_id}
 use Rattle.elem_store.specs.Updates.{element_of, ids_of, is_newer, is_taken, takings, Taking}
@@ -20,7 +21,6 @@ use Rattle.undoing.proofs.CallerLemmas.{taken-has, put-rising}
 use Rattle.snapshot.specs.Carried.{carried_to, with_made}
 use Rattle.snapshot.specs.Pending.{pairs_since}
 use Rattle.snapshot.proofs.PutLaws.{put-below, put-there, all-rise, all-each, all-append, all-below, all-cover, taken_all-put}
-use Rattle.json_text.proofs.CallerLemmas.{Contains-map, Contains-to_map}
 
 -- ---- an entry of some elements stands for those over the others too
 module _ (captured step : List ElementValue) (rise : are_rising (ids_of step) ≡ true)

@@ -112,7 +112,8 @@ pub put-below : (x : ElementValue) (ys zs : List ElementValue) → are_rising (i
 put-below x ys zs h k =
     same_elements (with_all_put (with_put x ys) zs) (with_put x (with_all_put ys zs)) (all-rise (with_put x ys) zs k)
     (put-rising x (with_all_put ys zs) (all-rise ys zs k))
-    (λ id. all-each (with_put x ys) zs id (put-rising x ys h) ∙ ap (λ o. option_or o (element_of zs id)) (put-each x ys id)
+    (λ id. all-each (with_put x ys) zs id (put-rising x ys h)
+    ∙ ap (λ o. option_or o (element_of zs id)) (put-each x ys id)
     ∙ over (has_id id x) x (element_of ys id) (element_of zs id)
     ∙ sym (put-each x (with_all_put ys zs) id ∙ ap (cond (has_id id x) (Some x)) (all-each ys zs id h)))
 

@@ -4,6 +4,7 @@ use Rattle.std.proofs.lemmas.Bool.{false≢true, true_from_ne_false, not-false, 
 use Rattle.std.proofs.lemmas.List.Elements.{All-contains}
 use Rattle.json_text.proofs.CallerLemmas.{bytes_eq-true, bytes_eq-same, Contains-map}
 use Rattle.frac_keys.specs.Rising.{ends_rise, rise_between, are_rising}
+use Rattle.frac_keys.proofs.CallerLemmas.{bytes_less-trans}
 use Rattle.elem.specs.declared.kind.Kind.{Kind}
 use Rattle.elem.specs.ElementValue.{ElementValue}
 use Rattle.elem.specs.Facts.{IsKind, IsElement}
@@ -18,7 +19,6 @@ use Rattle.delta.specs.Pairs.{Pair, pair_with, pairs_from, IsChanged, IsUnchange
 use Rattle.delta.specs.Parts.{counted}
 use Rattle.undoing.specs.Differing.{same_kind, differ, is_changed, pending}
 use Rattle.undoing.specs.Entries.{IsOfElements, pair_ids, IsEntry}
-use Rattle.frac_keys.proofs.CallerLemmas.{bytes_less-trans}
 
 -- ---- kinds
 pub same_kind-same : (kind : Kind) → same_kind kind kind ≡ true

@@ -7,6 +7,8 @@ use Rattle.std.proofs.lemmas.List.Elements.{All-contains_itself, All-weaker, All
 use Rattle.std.proofs.lemmas.Option.{none-some, same_Some, cond_some}
 use Rattle.frac_keys.specs.Keys.{bytes_less}
 use Rattle.frac_keys.specs.Rising.{ends_rise, rise_between, are_rising}
+use Rattle.frac_keys.proofs.CallerLemmas.{bytes_less_itself, bytes_less-asym}
+use Rattle.json_text.proofs.CallerLemmas.{Contains-map}
 use Rattle.elem.specs.ElementValue.{ElementValue}
 use Rattle.elem.specs.Facts.{IsElement, greatest_whole}
 use Rattle.elem.specs.Order.{unstamped}
@@ -22,8 +24,6 @@ use Rattle.undoing.specs.Steps.{Reverted, reverted, changes, is_full, is_seen, s
 use Rattle.undoing.specs.Undoing.{undone}
 use Rattle.undoing.proofs.DifferingLaws.{differ-true, found-is, rise-lower, ids-from}
 use Rattle.undoing.proofs.UndoneLaws.{undone-stamp, undone-element}
-use Rattle.frac_keys.proofs.CallerLemmas.{bytes_less_itself, bytes_less-asym}
-use Rattle.json_text.proofs.CallerLemmas.{Contains-map}
 
 -- ---- what a function gives of the items of a list
 module _ {X Y : Type 0} (h : X → Option Y) where

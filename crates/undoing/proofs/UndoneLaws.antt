@@ -397,7 +397,8 @@ module _ (pair : Pair) (now : ElementValue) (of : IsOfElements pair) (kind : pai
   pub inverse-makes : (part : Delta) (result : ElementValue) → PartStandsFor part pair.before pair.after
       → IsElement result → IsApplied (inverse part) now result → result ≡ undone pair now
   inverse-makes part result stands isresult applied =
-      undone-only pair now of.0.0 of.1.0 isnow kind result isresult (undone-from part pair.before pair.after of.0.0 of.1.0 stands now result isnow
+      undone-only pair now of.0.0 of.1.0 isnow kind result isresult
+      (undone-from part pair.before pair.after of.0.0 of.1.0 stands now result isnow
       isresult applied)
 
   pub reverts-undone : (part : Delta) (result : ElementValue) → PartStandsFor part pair.before pair.after

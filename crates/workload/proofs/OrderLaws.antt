@@ -135,7 +135,13 @@ order-are (SetX element value) small = record {
   );
   valued = (
     word-value (codes "set") (ascii-utf8 (codes "set") refl),
-    (id-value element small.0, (word-value (codes "x") (ascii-utf8 (codes "x") refl), (number-value value small.1, tt))),
+    (
+      id-value element small.0,
+      (
+        word-value (codes "x") (ascii-utf8 (codes "x") refl),
+        (number-value value small.1, tt),
+      ),
+    ),
   );
   distinct = IsDistinct-from_count nat_list_eq_equiv _ refl;
 }
@@ -146,7 +152,13 @@ order-are (SetY element value) small = record {
   );
   valued = (
     word-value (codes "set") (ascii-utf8 (codes "set") refl),
-    (id-value element small.0, (word-value (codes "y") (ascii-utf8 (codes "y") refl), (number-value value small.1, tt))),
+    (
+      id-value element small.0,
+      (
+        word-value (codes "y") (ascii-utf8 (codes "y") refl),
+        (number-value value small.1, tt),
+      ),
+    ),
   );
   distinct = IsDistinct-from_count nat_list_eq_equiv _ refl;
 }

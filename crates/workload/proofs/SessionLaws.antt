@@ -8,6 +8,7 @@ use Rattle.std.proofs.lemmas.List.FromFn.{get_or-range_with_len, length-range_wi
 use Rattle.std.proofs.lemmas.List.Sorted.{All-permutation, IsPermutation-reverse}
 use Rattle.json_text.specs.Characters.{is_blank}
 use Rattle.json_text.specs.Value.{Stands}
+use Rattle.json_text.proofs.CallerLemmas.{Contains-to_map}
 use Rattle.elem.specs.Facts.{greatest_whole}
 use Rattle.session_text.specs.Sessions.{EventsLead, IsSessionOf}
 use Rattle.session_text.specs.declared.event.Event.{Event}
@@ -19,7 +20,6 @@ use Rattle.workload.specs.Texts.{rising, falling, deed_text, last_texts, session
 use Rattle.workload.proofs.CourseLaws.{counted, course-lines, own-events}
 use Rattle.workload.proofs.EventLaws.{delivery-line, header-compact, header-says}
 use Rattle.workload.proofs.LineLaws.{AreLines, lines-append, lines-lead, behind_all, last-feed}
-use Rattle.json_text.proofs.CallerLemmas.{Contains-to_map}
 
 -- ---- the last four events
 range-below : (from count limit : ℕ) → from + count ≤ limit
