@@ -13,8 +13,9 @@ use Rattle.delta.specs.Delta.{Delta}
 use Rattle.delta.specs.Pairs.{Pair, EntryStandsFor, pair_with, pairs_from}
 use Rattle.delta.specs.Parts.{counted, inverse}
 use Rattle.delta.proofs.CallerLemmas.{undone-from, applied-back}
-use Rattle.history.specs.Steps.{stamped, AreGiven}
+use Rattle.history.specs.Steps.{AreGiven}
 use Rattle.history.specs.Undone.{EachIsElement, ArePairsOfElements, AreUndone, ComesBack}
+use Rattle.undoing.specs.Steps.{stamped}
 
 -- a stored element is an element
 stored-is : (store : List ElementValue) (id : List ℕ) (now : ElementValue) → EachIsElement store

@@ -1,6 +1,6 @@
 -- One step: an entry is taken back from the stored elements. This project's own, after Excalidraw's
 -- history.
-use Rattle.std.specs.Prelude.{◌≡◌, ◌≢◌, ◌⊎◌, ℕ, ◌+◌, List, true, false, Option, Some, None, Contains}
+use Rattle.std.specs.Prelude.{◌≡◌, ◌≢◌, ◌⊎◌, ℕ, List, true, false, Option, Some, None, Contains}
 use Rattle.frac_keys.specs.Keys.{bytes_less}
 use Rattle.frac_keys.specs.Rising.{are_rising}
 use Rattle.elem.specs.ElementValue.{ElementValue}
@@ -11,10 +11,7 @@ use Rattle.delta.specs.Applied.{IsApplied, KeepsStamp}
 use Rattle.delta.specs.Delta.{Delta}
 use Rattle.delta.specs.Pairs.{EntryStandsFor, pairs_from}
 use Rattle.delta.specs.Parts.{inverse}
-
--- an element with its version raised by one, and with this time and nonce
-abbrev pub stamped : ℕ → ℕ → ElementValue → ElementValue
-stamped time nonce e = record e { version = e.version + 1; nonce = nonce; updated = time }
+use Rattle.undoing.specs.Steps.{stamped}
 
 -- The inverse of a part makes this element of another one.
 pub record Reverts (part : Delta) (now reverted : ElementValue) : Type 0 where

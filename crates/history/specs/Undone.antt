@@ -7,7 +7,8 @@ use Rattle.elem.specs.Order.{unstamped}
 use Rattle.elem_store.specs.Updates.{element_of, ids_of}
 use Rattle.delta.specs.Pairs.{Pair, IsUnchanged}
 use Rattle.delta.specs.Undone.{IsUndone}
-use Rattle.history.specs.Steps.{stamped, Differ}
+use Rattle.undoing.specs.Steps.{stamped}
+use Rattle.history.specs.Steps.{Differ}
 
 -- Each of the list is an element; so are both of each pair.
 abbrev pub EachIsElement : List ElementValue → Type 0

@@ -32,8 +32,8 @@ use std::marker::Model;
 /// stored elements, its snapshot, its stacks of entries and the ids that are held; for want of
 /// memory they are as before each call.
 ///
-/// `specs/State.antt` says over whole elements what each call makes of a replica; a clause on a
-/// call is for every state that the replica stands for.
+/// `specs/State.antt` says over whole elements what each call makes of a replica; a clause on a call is for every state that
+/// the replica stands for.
 pub struct Replica {
     alloc: Global,
     board: Board,

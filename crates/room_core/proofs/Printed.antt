@@ -1,5 +1,5 @@
 -- The parts of a room's texts, appended one after the other.
-use Rattle.std.proofs.Common.{◌≡◌, ℕ, zero, suc, ◌<◌, List, [], ◌∷◌, ◌++◌, None, length, codes, map, sym, ap, ◌∙◌, append_assoc, slice_get, arith}
+use Rattle.std.proofs.Common.{◌≡◌, ℕ, List, [], ◌∷◌, ◌++◌, codes, map, sym, ap, ◌∙◌, append_assoc}
 use Rattle.std.specs.List.{join_with_byte}
 use Rattle.json_text.specs.Characters.{quote}
 use Rattle.json_text.specs.Compact.{array_text, object_text}
@@ -10,12 +10,6 @@ use Rattle.room_msg.specs.Texts.{message_text}
 use Rattle.room_msg.specs.declared.fault.MsgFault.{MsgFault}
 use Rattle.room_msg.specs.declared.message.Message.TheVariants.{Init}
 use Rattle.room_core.specs.Rooms.{invalid_text}
-
--- an index within the elements has one
-pub within_stored : (stored : List ElementValue) (i : ℕ) → i < length stored → None ≡ slice_get stored i → ⊥
-within_stored [] i l h = absurd (omega arith)
-within_stored (e ∷ stored) zero l h = cc
-within_stored (e ∷ stored) (suc i) l h = within_stored stored i (omega arith) h
 
 abbrev init_front : List ℕ
 init_front = codes "{\"type\":\"SCENE_INIT\",\"payload\":{\"elements\":["

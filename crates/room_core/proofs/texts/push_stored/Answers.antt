@@ -3,7 +3,7 @@ use Rattle.std.specs.List.{join_with_byte}
 use Rattle.std.proofs.lemmas.Option.{get_or_from_slice_get}
 use Rattle.scene_json.proofs.CallerLemmas.{mapped-step}
 use Rattle.elem.specs.Texts.{element_text}
-use Rattle.room_core.proofs.Printed.{within_stored}
+use Rattle.elem_store.proofs.CallerLemmas.{within_stored}
 use Rattle.room_core.proofs.texts.push_stored.Goals as goal
 use Rattle.room_core.proofs.texts.push_stored.Goals.{in-Some+in_ok-push_comma+in_ok-push_element, in_default}
 
