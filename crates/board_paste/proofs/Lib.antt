@@ -1,4 +1,3 @@
 pub mod StoredIds
-pub mod FileTable
 pub mod PastedLaws
 pub mod CallerLemmas

@@ -6,6 +6,7 @@ use Rattle.json_text.proofs.CallerLemmas.{bytes_eq-same}
 use Rattle.elem.specs.ElementValue.{ElementValue}
 use Rattle.elem.specs.Order.{has_id, HaveDistinctIds}
 use Rattle.index_repair.specs.Keyed.{keyed, with_index}
+use Rattle.index_repair.proofs.CallerLemmas.{keyed-distinct}
 use Rattle.elem_store.specs.Updates.{element_of, is_best, is_unbeaten, stored_of, AreStored}
 use Rattle.elem_store.proofs.CallerLemmas.{Contains-cases, Contains-cons, Contains-head, find-None, find-Some, of_itself, of_other, same_id, stored-append, joined_leader, stored-None, AreStored-stored, IsBestOf-stored}
 use Rattle.copies.specs.Copies.{copies_of}
@@ -55,19 +56,6 @@ keyed-from (x ∷ es) (key ∷ keys) e c =
       | inl s ↦ (x, Contains-head x es, ap (λ (y : ElementValue). y.id) (sym s))
       | inr r ↦ let k = keyed-from es keys e r in (k.0, Contains-cons x es k.0 k.1, k.2)
     ]
-
-keyed-apart : (id : List ℕ) (es : List ElementValue) (keys : List (List ℕ))
-    → AllByRecursion (λ y. bytes_eq id y ≡ false) (map (λ (x : ElementValue). x.id) es)
-    → AllByRecursion (λ y. bytes_eq id y ≡ false) (map (λ (x : ElementValue). x.id) (keyed es keys))
-keyed-apart id [] keys all = tt
-keyed-apart id (x ∷ es) [] all = tt
-keyed-apart id (x ∷ es) (key ∷ keys) all = (all.0, keyed-apart id es keys all.1)
-
-keyed-distinct : (es : List ElementValue) (keys : List (List ℕ)) → HaveDistinctIds es → HaveDistinctIds (keyed es keys)
-unfolding IsDistinct
-keyed-distinct [] keys d = tt
-keyed-distinct (x ∷ es) [] d = tt
-keyed-distinct (x ∷ es) (key ∷ keys) d = (keyed-apart x.id es keys d.0, keyed-distinct es keys d.1)
 
 -- ---- new elements of distinct ids beside those that are stored
 none-of : (xs : List ElementValue) (id : List ℕ) → ((e : ElementValue) → Contains xs e → e.id ≢ id)

@@ -1,6 +1,6 @@
 -- Whether the ids of copies are stored.
-use Rattle.std.proofs.Common.{◌≡◌, ◌↔◌, inl, inr, ℕ, suc, Bool, true, false, cond, List, [], ◌∷◌, ◌++◌, Option, Some, None, is_some, Contains, min, zero, drop, length, refl, sym, ap, ◌∙◌, arith}
-use Rattle.std.proofs.lemmas.Bool.{false≢true}
+use Rattle.std.proofs.Common.{◌≡◌, ◌↔◌, inl, inr, ℕ, suc, Bool, true, false, cond, List, [], ◌∷◌, ◌++◌, Some, None, is_some, Contains, min, zero, drop, length, refl, sym, ap, ◌∙◌, arith}
+use Rattle.json_text.proofs.CallerLemmas.{none-is}
 use Rattle.elem.specs.ElementValue.{ElementValue}
 use Rattle.elem_store.specs.Updates.{element_of}
 use Rattle.elem_store.proofs.CallerLemmas.{Contains-cases, Contains-cons, Contains-head}
@@ -37,10 +37,6 @@ all-new stored (x ∷ elements) (place ∷ places) new =
     ap (λ b. cond b (Some place) (first_stored stored elements places)) (new x (Contains-head x elements))
     ∙ all-new stored elements places (λ e c. new e (Contains-cons x elements e c))
 
-not-some : (o : Option ElementValue) → is_some o ≡ false → o ≡ None
-not-some None e = refl
-not-some (Some x) e = absurd (false≢true (sym e))
-
 -- what is left of two lists behind the shorter one
 none-left : (stored elements : List ElementValue) → first_stored stored elements [] ≡ None
 none-left stored [] = refl
@@ -62,7 +58,7 @@ ids-new stored list prefix places same = (
   λ none e c.
       let new = none-stored stored (copies_of list prefix) places (same ∙ sym (copies-length list prefix)) none
       (copy_of list prefix e) (copied list prefix e c) in
-      not-some (element_of stored (prefix ++ e.id))
+      none-is (element_of stored (prefix ++ e.id))
       (ap (λ id. is_some (element_of stored id)) (sym (copy-named list prefix e)) ∙ new),
   λ new. all-new stored (copies_of list prefix) places
       (λ copy c.

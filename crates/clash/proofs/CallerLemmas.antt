@@ -1,2 +1,2 @@
 -- The lemmas that crates above cite; nothing else of this folder is cited there.
-pub use Rattle.clash.proofs.FirstLaws.{firsts-more, firsts-tell, free-found}
+pub use Rattle.clash.proofs.FirstLaws.{AreAlike, firsts-more, firsts-tell, free-found, tied-alike}

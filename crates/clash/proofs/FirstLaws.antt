@@ -1,7 +1,7 @@
 -- First elements, and clashes with them.
 use Rattle.std.proofs.Common.{◌≡◌, inl, inr, zero, suc, Bool, true, false, cond, not, ◌&&◌, ◌==◌, List, [], ◌∷◌, ◌++◌, Option, Some, None, is_some, Contains, MatchBool, IsTrue, ◌↔◌, find, filter, bytes_eq, refl, sym, ap, subst, ◌∙◌, append_assoc, append-nil, arith}
 use Rattle.std.specs.Option.{option_or}
-use Rattle.std.proofs.lemmas.Bool.{cases_Bool, and_parts, both_ways, cond-true, cond-false, false_from_ne_true, eqb-true}
+use Rattle.std.proofs.lemmas.Bool.{cases_Bool, and_parts, both_ways, cond-true, cond-false, false_from_ne_true, eqb-true, not_from_false}
 use Rattle.std.proofs.lemmas.List.Elements.{filter-append, Contains-append_left, Contains-append_right}
 use Rattle.std.proofs.lemmas.List.Folds.{find-append}
 use Rattle.std.proofs.lemmas.Option.{same_Some}
@@ -13,12 +13,12 @@ use Rattle.clash.specs.Firsts.{first_tied, HasClash, IsLikeFirst, firsts_with, f
 use Rattle.clash.proofs.MarkLaws.{marked-itself}
 
 -- ---- ties
-record AreAlike (e other : ElementValue) : Type 0 where
-  id : e.id ≡ other.id
-  version : e.version ≡ other.version
-  nonce : e.nonce ≡ other.nonce
+pub record AreAlike (e other : ElementValue) : Type 0 where
+  pub id : e.id ≡ other.id
+  pub version : e.version ≡ other.version
+  pub nonce : e.nonce ≡ other.nonce
 
-tied-alike : (e other : ElementValue) → are_tied e other ≡ true → AreAlike e other
+pub tied-alike : (e other : ElementValue) → are_tied e other ≡ true → AreAlike e other
 tied-alike e other h =
     let outer = and_parts (bytes_eq e.id other.id) ((e.version == other.version) && (e.nonce == other.nonce)) h in
     let inner = and_parts (e.version == other.version) (e.nonce == other.nonce) outer.1 in
@@ -49,13 +49,10 @@ find-kept p q (x ∷ xs) h =
 abbrev is_new : ElementValue → ElementValue → Bool
 is_new e other = not (are_tied other e)
 
-not-false : (b : Bool) → b ≡ false → not b ≡ true
-not-false b h = ap not h
-
 -- what is tied to an element isn't tied to one that the element isn't tied to
 still-new : (e x other : ElementValue) → are_tied e x ≡ false → are_tied e other ≡ true → is_new x other ≡ true
 still-new e x other apart tied =
-    not-false (are_tied other x) (false_from_ne_true (are_tied other x)
+    not_from_false (are_tied other x) (false_from_ne_true (are_tied other x)
     (λ t. both_ways (are_tied e x) apart (tied-same e other x tied ∙ t)))
 
 pub firsts-tell : (elements : List ElementValue) (e : ElementValue)

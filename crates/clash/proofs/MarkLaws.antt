@@ -10,6 +10,7 @@ use Rattle.std.proofs.lemmas.List.Folds.{find-append}
 use Rattle.std.proofs.lemmas.Option.{slice_get-get_or}
 use Rattle.std.proofs.lemmas.Slice.Eq.{bytes_eq-Decides}
 use Rattle.elem.specs.ElementValue.{ElementValue}
+use Rattle.elem_store.proofs.CallerLemmas.{get-last}
 use Rattle.clash.specs.Marks.{Mark, mark_of, is_marked, mark_cmp, place_of, AreListed}
 
 -- ---- equal marks
@@ -50,9 +51,6 @@ marked-itself e =
     (eq-eqb e.nonce e.nonce refl))
 
 -- ---- one element more
-get-last : (xs : List ElementValue) (x : ElementValue) → slice_get (xs ++ x ∷ []) (length xs) ≡ Some x
-get-last [] x = refl
-get-last (y ∷ xs) x = get-last xs x
 
 get-within : (xs : List ElementValue) (x : ElementValue) (i : ℕ) → i < length xs
     → slice_get (xs ++ x ∷ []) i ≡ slice_get xs i

@@ -2,7 +2,6 @@
 pub use Rattle.clips.proofs.ClipOnce.{clip-faultless, clip-once, fault-once}
 pub use Rattle.clips.proofs.ClipTold.{live-all}
 pub use Rattle.clips.proofs.Existing.{clip-or-fault}
-pub use Rattle.clips.proofs.GivenForms.{fits-given, is-text}
 pub use Rattle.clips.proofs.PlacedReading.{placed-faultless, placed-of, placed-once, placed-whole}
 pub use Rattle.clips.proofs.Questions.{Asked, asked-none, asked-once, no, yes}
 pub use Rattle.clips.proofs.RepeatLaws.{repeat-first, repeat-none}

@@ -1,15 +1,15 @@
 -- A text is that of one clip at most, or has one first fault.
-use Rattle.std.proofs.Common.{◌≡◌, ℕ, List, [], ◌∷◌, Option, Some, None, codes, drop, refl, sym, ap, ap₂, ◌∙◌, subst}
+use Rattle.std.proofs.Common.{◌≡◌, ℕ, List, [], Some, codes, refl, sym, ap, ap₂, ◌∙◌, subst}
 use Rattle.std.proofs.lemmas.Option.{same_Some}
 use Rattle.json_text.specs.Compact.{Member as Pair}
 use Rattle.json_text.specs.Members.{pairs}
-use Rattle.json_text.specs.declared.text.Member.{Member}
 use Rattle.elem.specs.Forms.{IsObject}
-use Rattle.elem.proofs.CallerLemmas.{members-once, array-once}
+use Rattle.elem.proofs.CallerLemmas.{members-once, pairs-once}
 use Rattle.elem_read.specs.Elements.{IsFirstFaulty}
 use Rattle.elem_read.specs.declared.fault.ElemFault.{ElemFault}
 use Rattle.elem_read.proofs.CallerLemmas.{faulty-once}
 use Rattle.scene_file.specs.Reading.{value_unless_null, HasItems, HasMembers}
+use Rattle.scene_file.proofs.CallerLemmas.{items-once, value_unless_null-once}
 use Rattle.clips.specs.Clips.{live_in, IsClipboard, IsClipOf, IsClipFault}
 use Rattle.clips.specs.Placed.{elements_in, places_in, first_repeat, AreReadFrom}
 use Rattle.clips.specs.declared.clip.Clip.{Clip}
@@ -19,27 +19,6 @@ use Rattle.clips.specs.declared.placed.Placed.{Placed}
 use Rattle.clips.proofs.PlacedReading.{placed-once, placed-faultless}
 use Rattle.clips.proofs.Questions.{Asked, no, yes, asked-once, asked-none}
 
--- ---- parts
-files-once : (found : Option (List ℕ)) (ms ns : List Pair) → HasMembers found ms → HasMembers found ns → ms ≡ ns
-files-once None ms ns one two = one ∙ sym two
-files-once (Some value) ms ns one two = members-once value ms ns one two
-
-items-once : (found : Option (List ℕ)) (vs ws : List (List ℕ)) → HasItems found vs → HasItems found ws → vs ≡ ws
-items-once None vs ws one two = one ∙ sym two
-items-once (Some value) vs ws one two = array-once vs ws one.0 two.0 (sym one.1 ∙ two.1)
-
-pairs-once : (xs ys : List Member) → pairs xs ≡ pairs ys → xs ≡ ys
-pairs-once [] [] e = refl
-pairs-once [] (y ∷ ys) e = cc
-pairs-once (x ∷ xs) [] e = cc
-pairs-once (x ∷ xs) (y ∷ ys) e =
-    let first : (x.name, x.value) ≡ (y.name, y.value) = ap (λ ps. head_or ps (x.name, x.value)) e in
-    ap₂ (λ z zs. z ∷ zs) (λ i. record { name = (first i).0; value = (first i).1 }) (pairs-once xs ys (ap (drop 1) e))
-  where
-    head_or : List Pair → Pair → Pair
-    head_or [] p = p
-    head_or (q ∷ qs) p = q
-
 -- ---- clips
 pub clip-once : (text : List ℕ) (clip other : Clip) → IsClipOf text clip → IsClipOf text other → clip ≡ other
 clip-once text clip other one two =
@@ -47,7 +26,8 @@ clip-once text clip other one two =
     let values = items-once (value_unless_null (codes "elements") one.members) two.values one.values
     (subst (λ ms. HasItems (value_unless_null (codes "elements") ms) two.values) members two.items) one.items in
     let files = pairs-once clip.files other.files
-    (files-once (value_unless_null (codes "files") one.members) (pairs clip.files) (pairs other.files) one.files
+    (value_unless_null-once (value_unless_null (codes "files") one.members) (pairs clip.files) (pairs other.files)
+    one.files
     (subst (λ ms. HasMembers (value_unless_null (codes "files") ms) (pairs other.files)) members two.files)) in
     let placed = placed-once 0 one.values one.placed two.placed one.read
     (subst (λ vs. AreReadFrom 0 vs two.placed) values two.read) in

@@ -4,8 +4,8 @@ use Rattle.std.proofs.lemmas.List.Elements.{All-cons, All-head, All-tail}
 use Rattle.board_base.specs.declared.stop.Stop.TheVariants.{Fault}
 use Rattle.json_text.specs.Characters.{quote}
 use Rattle.json_text.specs.Compact.{Member as Pair}
+use Rattle.json_text.proofs.CallerLemmas.{ascii-utf8}
 use Rattle.scene_json.specs.Named.{value_at}
-use Rattle.elem.proofs.CallerLemmas.{literal}
 use Rattle.elem_read.proofs.CallerLemmas.{stopped}
 use Rattle.scene_file.specs.Reading.{value_unless_null, HasMembers}
 use Rattle.elem.specs.ElementValue.{ElementValue}
@@ -17,7 +17,7 @@ use Rattle.clips.specs.declared.fault.ClipFault.TheVariants.{NotObject, NotClip,
 
 pub is-clipboard : (members : List Pair) → value_at (codes "type") members ≡ Some (quote (codes "excalidraw/clipboard"))
     → IsClipboard members
-is-clipboard members kind = (literal (codes "excalidraw/clipboard") refl, kind)
+is-clipboard members kind = (ascii-utf8 (codes "excalidraw/clipboard") refl, kind)
 
 pub fault-same : (A : Type 0) (a b : ClipFault) → stopped A (Fault a) ≡ stopped A (Fault b) → a ≡ b
 fault-same A a b e = cc

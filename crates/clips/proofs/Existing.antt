@@ -8,13 +8,13 @@ use Rattle.scene_json.specs.Named.{value_at}
 use Rattle.elem.specs.Forms.{IsObject}
 use Rattle.elem_read.proofs.CallerLemmas.{Decided, fits-in, pairs-unpaired, read-or-faulty, unpaired}
 use Rattle.scene_file.specs.Reading.{value_unless_null, HasItems, HasMembers}
+use Rattle.scene_file.proofs.CallerLemmas.{fits-value_unless_null, is-text, items-compact, items-or-not, members-or-not}
 use Rattle.clips.specs.Clips.{live_in, IsClipboard, IsClipOf, IsClipFault, IsClipWith}
 use Rattle.clips.specs.Placed.{elements_in, places_in, first_repeat, AreReadFrom}
 use Rattle.clips.specs.declared.clip.Clip.{Clip}
 use Rattle.clips.specs.declared.fault.ClipFault.{ClipFault}
 use Rattle.clips.specs.declared.fault.ClipFault.TheVariants.{NotObject, NotClip, Elements, Files, Element, Repeated}
 use Rattle.clips.specs.declared.placed.Placed.{Placed}
-use Rattle.clips.proofs.GivenForms.{fits-given, is-text, items-compact, items-or-not, members-or-not}
 use Rattle.clips.proofs.PlacedReading.{placed-of}
 
 abbrev Told : List ℕ → Type 0
@@ -79,6 +79,7 @@ clip-or-fault text is = by (object-or-not text is)
         (fits-in 127 members (lit≤ tt) are (codes "type"))) [
           | inr none ↦ inr (NotClip, (members, object, none))
           | inl kind ↦ parts members are object kind (items-or-not (value_unless_null (codes "elements") members)
-              (fits-given (codes "elements") members are))
-              (members-or-not (value_unless_null (codes "files") members) (fits-given (codes "files") members are))
+              (fits-value_unless_null (codes "elements") members are))
+              (members-or-not (value_unless_null (codes "files") members)
+              (fits-value_unless_null (codes "files") members are))
         ]

@@ -1,10 +1,8 @@
 pub mod PlacedReading
 pub mod RepeatLaws
 pub mod Questions
-pub mod GivenForms
 pub mod ClipOnce
 pub mod ClipTold
-pub mod ClipFiles
 pub mod WholeClips
 pub mod WholeCopies
 pub mod Existing

@@ -1,11 +1,11 @@
 -- Values that are read one after the other, each with its place.
-use Rattle.std.proofs.Common.{◌≡◌, inl, inr, ℕ, zero, suc, ◌+◌, ◌<◌, List, [], ◌∷◌, ◌++◌, All, length, take, get_or, refl, sym, ap, ap₂, subst, ◌∙◌, arith, length-take}
-use Rattle.std.proofs.lemmas.List.{take_more}
+use Rattle.std.proofs.Common.{◌≡◌, inl, inr, ℕ, suc, ◌+◌, ◌<◌, List, [], ◌∷◌, ◌++◌, All, length, take, get_or, refl, sym, ap, ap₂, subst, ◌∙◌, arith, length-take}
+use Rattle.json_text.proofs.CallerLemmas.{taken-next}
 use Rattle.elem.specs.ElementValue.{ElementValue}
 use Rattle.elem_read.specs.Elements.{AreRead, IsFirstFaulty}
 use Rattle.elem_read.specs.Reading.{IsSelection, IsElementIn, IsFaultIn, IsWholeElement}
 use Rattle.elem_read.specs.declared.fault.ElemFault.{ElemFault}
-use Rattle.elem_read.proofs.CallerLemmas.{All-whole, element-kept, element-once, faultless}
+use Rattle.elem_read.proofs.CallerLemmas.{All-whole, element-kept, element-once, faultless, faulty-at}
 use Rattle.clips.specs.Placed.{elements_in, AreReadFrom}
 use Rattle.clips.specs.declared.placed.Placed.{Placed}
 
@@ -34,16 +34,12 @@ dropped-append n (v ∷ values) value placed is (inl (dropped, read)) =
 dropped-append n (v ∷ values) value placed is (inr (first, others, all, here, one, read)) =
     inr (first, others, all, here, one, dropped-append (suc n) values value others is read)
 
-next : (values : List (List ℕ)) (i : ℕ) (value : List ℕ) → i < length values → value ≡ get_or values i value
-    → take (i + 1) values ≡ take i values ++ value ∷ []
-next values i value within is = take_more values i value within ∙ ap (λ v. take i values ++ v ∷ []) (sym is)
-
 pub read-more : (values : List (List ℕ)) (i : ℕ) (value : List ℕ) (placed new : List Placed) (p : Placed)
     → i < length values → value ≡ get_or values i value
     → AreReadFrom 0 (take i values) placed → p.place ≡ i → IsElementIn value p.element → new ≡ placed ++ p ∷ []
     → AreReadFrom 0 (take (i + 1) values) new
 read-more values i value placed new p within at read place is pushed =
-    subst (λ vs. AreReadFrom 0 vs new) (sym (next values i value within at))
+    subst (λ vs. AreReadFrom 0 vs new) (sym (taken-next values i value within at))
     (subst (AreReadFrom 0 (take i values ++ value ∷ [])) (sym pushed)
     (read-append 0 (take i values) value placed p (omega (arith, place, length-take i values)) is read))
 
@@ -51,7 +47,7 @@ pub dropped-more : (values : List (List ℕ)) (i : ℕ) (value : List ℕ) (plac
     → value ≡ get_or values i value
     → AreReadFrom 0 (take i values) placed → IsSelection value → AreReadFrom 0 (take (i + 1) values) placed
 dropped-more values i value placed within at read is =
-    subst (λ vs. AreReadFrom 0 vs placed) (sym (next values i value within at))
+    subst (λ vs. AreReadFrom 0 vs placed) (sym (taken-next values i value within at))
     (dropped-append 0 (take i values) value placed is read)
 
 -- ---- without the places
@@ -61,16 +57,6 @@ without-places n [] placed read = ap elements_in read
 without-places n (v ∷ values) placed (inl (dropped, read)) = inl (dropped, without-places (suc n) values placed read)
 without-places n (v ∷ values) placed (inr (p, others, all, here, is, read)) =
     inr (p.element, elements_in others, ap elements_in all, is, without-places (suc n) values others read)
-
-faulty-at : (values : List (List ℕ)) (i : ℕ) (value : List ℕ) (elements : List ElementValue) (fault : ElemFault)
-    → i < length values → value ≡ get_or values i value
-    → AreRead (take i values) elements → IsFaultIn value fault → IsFirstFaulty values i fault
-faulty-at [] i value elements fault within at read faulty = absurd (omega arith)
-faulty-at (v ∷ values) zero value elements fault within at read faulty = subst (λ w. IsFaultIn w fault) at faulty
-faulty-at (v ∷ values) (suc i) value elements fault within at (inl (dropped, read)) faulty =
-    (inl dropped, faulty-at values i value elements fault (omega arith) at read faulty)
-faulty-at (v ∷ values) (suc i) value elements fault within at (inr (e, others, all, here, read)) faulty =
-    (inr (e, here), faulty-at values i value others fault (omega arith) at read faulty)
 
 -- a faulty value behind values that are read
 pub faulty-next : (values : List (List ℕ)) (i : ℕ) (value : List ℕ) (placed : List Placed) (fault : ElemFault)

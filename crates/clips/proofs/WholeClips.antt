@@ -4,9 +4,9 @@ use Rattle.json_text.specs.Members.{pairs}
 use Rattle.json_text.specs.Parts.{AreMembers}
 use Rattle.elem.specs.Order.{HaveDistinctIds}
 use Rattle.elem_read.specs.Reading.{IsWholeElement}
+use Rattle.scene_file.proofs.CallerLemmas.{nests-value_unless_null}
 use Rattle.clips.specs.Clips.{live_in, IsClipOf}
 use Rattle.clips.specs.declared.clip.Clip.{Clip}
-use Rattle.clips.proofs.ClipFiles.{nests-given}
 use Rattle.clips.proofs.ClipTold.{live-all}
 use Rattle.clips.proofs.PlacedReading.{placed-whole}
 use Rattle.clips.proofs.RepeatLaws.{repeat-none}
@@ -20,4 +20,5 @@ clip-whole text clip is =
     (live-all IsWholeElement is.placed (placed-whole is.values is.placed is.read))
 
 pub clip-files : (text : List ℕ) (clip : Clip) → IsClipOf text clip → AreMembers 126 (pairs clip.files)
-clip-files text clip is = nests-given (codes "files") is.members (pairs clip.files) is.object.are_members is.files
+clip-files text clip is =
+    nests-value_unless_null (codes "files") is.members (pairs clip.files) is.object.are_members is.files

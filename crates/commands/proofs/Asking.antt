@@ -4,6 +4,7 @@ use Rattle.std.specs.Option.{option_map}
 use Rattle.std.specs.Str.Parse.{digits_value}
 use Rattle.std.proofs.lemmas.Bool.{cases_Bool, and_parts}
 use Rattle.std.proofs.lemmas.Bool.Decides.{nat_tests}
+use Rattle.std.proofs.lemmas.Option.{none-some, same_Some}
 use Rattle.json_text.proofs.CallerLemmas.{bytes_eq-true}
 use Rattle.scene_file.specs.declared.layout.Layout.{Layout}
 use Rattle.scene_file.specs.declared.layout.Layout.TheVariants.{Compact, Pretty}
@@ -21,12 +22,6 @@ use Rattle.commands.specs.declared.words.Form.TheVariants as form
 use Rattle.commands.specs.declared.words.Request.{Request}
 use Rattle.commands.specs.declared.words.Request.TheVariants.{Answer, Drill as Drilled, Serve, Keep}
 use Rattle.commands.specs.declared.words.Service.{Service}
-
-none-some : {X : Type 0} (x : X) → None ≡ Some x → ⊥
-none-some x e = cc
-
-some-same : {X : Type 0} (a b : X) → Some a ≡ Some b → a ≡ b
-some-same a b e = cc
 
 asked-words : (command : Command) → HasNames command → asked (words_of command) ≡ Some (Answer command)
 asked-words (Restore Compact) names = refl
@@ -49,7 +44,7 @@ IsAsked words command = (words ≡ words_of command) × HasNames command
 
 asks-so : (made command : Command) (words : List (List ℕ)) → words ≡ words_of made → HasNames made
     → Some made ≡ Some command → IsAsked words command
-asks-so made command words is names e = subst (IsAsked words) (some-same made command e) (is, names)
+asks-so made command words is names e = subst (IsAsked words) (same_Some made command e) (is, names)
 
 -- what is found where a word is this one, or by a later test
 tested : (word text : List ℕ) (options : List (List ℕ)) (found rest : Option Command) (command : Command)
@@ -75,13 +70,13 @@ one-word : {X : Type 0} (text word : List ℕ) (made found : X) (words : X → L
 one-word text word made found words named e =
     elim (cases_Bool (bytes_eq word text)) [
       | inl t ↦ ap (λ w. w ∷ []) (bytes_eq-true word text t)
-          ∙ (sym named ∙ ap words (some-same made found (sym (ap (λ b. if b then Some made else None) t) ∙ e)))
+          ∙ (sym named ∙ ap words (same_Some made found (sym (ap (λ b. if b then Some made else None) t) ∙ e)))
       | inr f ↦ absurd (none-some found (sym (ap (λ b. if b then Some made else None) f) ∙ e))
     ]
 
 layout-words : (options : List (List ℕ)) (layout : Layout) → asked_layout options ≡ Some layout
     → options ≡ options_of layout
-layout-words [] layout e = ap options_of (some-same Compact layout e)
+layout-words [] layout e = ap options_of (same_Some Compact layout e)
 layout-words (word ∷ []) layout e = one-word (codes "--pretty") word Pretty layout options_of refl e
 layout-words (word ∷ next ∷ more) layout e = absurd (none-some layout e)
 
@@ -91,7 +86,7 @@ form_options form.State = []
 form_options form.Scene = codes "--scene" ∷ []
 
 form-words : (options : List (List ℕ)) (f : Form) → asked_form options ≡ Some f → options ≡ form_options f
-form-words [] f e = ap form_options (some-same form.State f e)
+form-words [] f e = ap form_options (same_Some form.State f e)
 form-words (word ∷ []) f e = one-word (codes "--scene") word form.Scene f form_options refl e
 form-words (word ∷ next ∷ more) f e = absurd (none-some f e)
 
@@ -201,7 +196,7 @@ differs : {A B : Type 0} (make : A → Request) (other : B) (of : B → Request)
     → ((a : A) → make a ≡ of other → ⊥)
     → option_map make found ≡ Some (of other) → ⊥
 differs make other of None apart e = none-some (of other) e
-differs make other of (Some a) apart e = apart a (some-same (make a) (of other) e)
+differs make other of (Some a) apart e = apart a (same_Some (make a) (of other) e)
 
 not-drilled : (found : Option Drill) (command : Command) → option_map Drilled found ≡ Some (Answer command) → ⊥
 not-drilled found command e = differs Drilled command Answer found (λ drill e. cc) e
@@ -210,7 +205,7 @@ not-drilled found command e = differs Drilled command Answer found (λ drill e. 
 room-differs : {B : Type 0} (other : B) (of : B → Request) (service : Option Service) (keeping : Option Keeping)
     → ((s : Service) → Serve s ≡ of other → ⊥) → ((k : Keeping) → Keep k ≡ of other → ⊥)
     → room_of_words service keeping ≡ Some (of other) → ⊥
-room-differs other of (Some service) keeping serves keeps e = serves service (some-same (Serve service) (of other) e)
+room-differs other of (Some service) keeping serves keeps e = serves service (same_Some (Serve service) (of other) e)
 room-differs other of None keeping serves keeps e = differs Keep other of keeping keeps e
 
 room-served : (found : Option Service) (keeping : Option Keeping) (service : Service)
@@ -263,7 +258,7 @@ least from most word number e = elim (cases_Bool (is_number_within from most wor
   | inl t ↦
       let parts = and_parts (bytes_eq word (decimal (digits_value 10 word))) _ t in
       let bounds = and_parts (nat_le from (digits_value 10 word)) _ parts.1 in
-      let same : digits_value 10 word ≡ number = some-same (digits_value 10 word) number (let h = rw t at e in h) in
+      let same : digits_value 10 word ≡ number = same_Some (digits_value 10 word) number (let h = rw t at e in h) in
       let low : nat_le from (digits_value 10 word) ≡ true = bounds.0 in
       grind (arith, nat_tests)
 ]
@@ -276,7 +271,7 @@ made (Some port) None idle layout service e = absurd (none-some service e)
 made (Some port) (Some links) None layout service e = absurd (none-some service e)
 made (Some port) (Some links) (Some idle) None service e = absurd (none-some service e)
 made (Some port) (Some links) (Some idle) (Some layout) service e =
-    let same = some-same _ service e in (
+    let same = same_Some _ service e in (
       ap (λ (s : Service). Some s.limits.links) same,
       (ap (λ (s : Service). Some s.limits.idle) same, subst (λ (s : Service). 1 ≤ s.limits.events) same (lit≤ tt)),
     )
@@ -313,7 +308,7 @@ made-kept (Some port) None idle begins keeping e = absurd (none-some keeping e)
 made-kept (Some port) (Some links) None begins keeping e = absurd (none-some keeping e)
 made-kept (Some port) (Some links) (Some idle) None keeping e = absurd (none-some keeping e)
 made-kept (Some port) (Some links) (Some idle) (Some begins) keeping e =
-    let same = some-same _ keeping e in (
+    let same = same_Some _ keeping e in (
       ap (λ (k : Keeping). Some k.limits.links) same,
       (ap (λ (k : Keeping). Some k.limits.idle) same, subst (λ (k : Keeping). 1 ≤ k.limits.events) same (lit≤ tt)),
     )
@@ -350,7 +345,7 @@ greatest from most word number e = elim (cases_Bool (is_number_within from most 
   | inl t ↦
       let parts = and_parts (bytes_eq word (decimal (digits_value 10 word))) _ t in
       let bounds = and_parts (nat_le from (digits_value 10 word)) _ parts.1 in
-      let same : digits_value 10 word ≡ number = some-same (digits_value 10 word) number (let h = rw t at e in h) in
+      let same : digits_value 10 word ≡ number = same_Some (digits_value 10 word) number (let h = rw t at e in h) in
       let high : nat_le (digits_value 10 word) most ≡ true = bounds.1 in
       grind (arith, nat_tests)
 ]
@@ -360,7 +355,7 @@ drill-made : (seed events : Option ℕ) (drill : Drill) → drill_of seed events
 drill-made None events drill e = absurd (none-some drill e)
 drill-made (Some seed) None drill e = absurd (none-some drill e)
 drill-made (Some seed) (Some events) drill e =
-    let same = some-same _ drill e in
+    let same = same_Some _ drill e in
     (ap (λ (d : Drill). Some d.seed) same, ap (λ (d : Drill). Some d.events) same)
 
 drill-is : (options : List (List ℕ)) (drill : Drill) → asked_drill options ≡ Some drill → IsDrillWithinLimits drill

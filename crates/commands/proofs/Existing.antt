@@ -4,7 +4,7 @@ use Rattle.std.specs.List.{AllByRecursion, prefix_len}
 use Rattle.json_text.specs.Characters.{is_blank, is_space}
 use Rattle.json_text.specs.Compact.{Member as Pair}
 use Rattle.json_text.specs.Value.{IsCompact}
-use Rattle.json_text.proofs.CallerLemmas.{Value-deeper}
+use Rattle.json_text.proofs.CallerLemmas.{Value-deeper, Runs-either}
 use Rattle.elem.specs.ElementValue.{ElementValue}
 use Rattle.elem_store.proofs.CallerLemmas.{stored-exist}
 use Rattle.file_table.specs.References.{referred_files}
@@ -34,7 +34,6 @@ use Rattle.commands.proofs.JournalExists.{AreAnswered, AreWhole, recovered-exist
 use Rattle.commands.proofs.PasteExists.{pasted-exists}
 use Rattle.commands.proofs.ShelfExists.{shelf-exists}
 use Rattle.commands.proofs.InsertExists.{inserted-exists}
-use Rattle.commands.proofs.Runs.{Runs-either}
 use Rattle.commands.proofs.Scenes.{ScenesLead-more}
 
 -- ---- the scenes of an input, or its first faulty text

@@ -2,6 +2,7 @@
 use Rattle.std.proofs.Common.{◌⊎◌, inl, inr, ℕ, ◌+◌, ◌≤◌, List, Option, Some, None, length, drop, refl, arith, length-drop}
 use Rattle.std.specs.List.{prefix_len}
 use Rattle.json_text.specs.Characters.{is_space}
+use Rattle.json_text.proofs.CallerLemmas.{Runs-either}
 use Rattle.json_reader.proofs.CallerLemmas.{value-or-fault}
 use Rattle.scene_file.specs.declared.scene.Scene.{Scene}
 use Rattle.scene_file.specs.declared.fault.SceneFault.TheVariants.{Json}
@@ -9,7 +10,6 @@ use Rattle.scene_file.proofs.CallerLemmas.{StandsAt, scene-or-fault}
 use Rattle.commands.specs.Fronts.{HasFront, IsBehind, IsFrontRefusal}
 use Rattle.commands.specs.declared.status.Refusal.{Refusal}
 use Rattle.commands.specs.declared.status.Refusal.TheVariants as refusal
-use Rattle.commands.proofs.Runs.{Runs-either}
 
 behind-exists : (bytes : List ℕ) (after : ℕ) → after ≤ length bytes → (more : Option ℕ) × IsBehind bytes after more
 behind-exists bytes after within = elim (Runs-either is_space (drop after bytes)) [

@@ -1,7 +1,7 @@
 -- What an input begins with is one scene and one value, or it has one first fault.
 use Rattle.std.proofs.Common.{◌≡◌, inl, inr, ℕ, ◌≤◌, List, Option, Some, None, length, drop, refl, sym, ap, subst, ◌∙◌, arith}
 use Rattle.json_text.specs.Value.{Stands}
-use Rattle.json_text.proofs.CallerLemmas.{Stands-once}
+use Rattle.json_text.proofs.CallerLemmas.{Stands-once, drop-once}
 use Rattle.json_reader.specs.declared.fault.JsonFault.{JsonFault}
 use Rattle.scene_file.specs.Reading.{IsSceneFaultAt}
 use Rattle.scene_file.specs.declared.scene.Scene.{Scene}
@@ -10,7 +10,7 @@ use Rattle.scene_file.proofs.CallerLemmas.{scene-once, fault-once, fault-none}
 use Rattle.commands.specs.Fronts.{HasFront, HasNoTextBehind, IsBehind, IsFrontRefusal, IsSecondRefusal}
 use Rattle.commands.specs.declared.status.Refusal.{Refusal}
 use Rattle.commands.specs.declared.status.Refusal.TheVariants as refusal
-use Rattle.commands.proofs.Inputs.{blank-whole, drop-once}
+use Rattle.commands.proofs.Inputs.{blank-whole}
 
 -- what stands behind an offset
 behind-once : (bytes : List ℕ) (after : ℕ) (a b : Option ℕ) → after ≤ length bytes → IsBehind bytes after a

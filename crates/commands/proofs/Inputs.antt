@@ -3,12 +3,12 @@ use Rattle.std.proofs.Common.{◌≡◌, ◌≢◌, ◌⊎◌, inl, inr, ℕ, �
 use Rattle.std.specs.List.{prefix_len}
 use Rattle.std.proofs.lemmas.Bool.{both_ways}
 use Rattle.json_text.specs.Characters.{is_blank, is_space}
+use Rattle.json_text.proofs.CallerLemmas.{drop-once, Runs-either}
 use Rattle.scene_file.specs.Reading.{IsSceneAt, IsSceneFaultAt}
 use Rattle.scene_file.specs.declared.scene.Scene.{Scene}
 use Rattle.scene_file.specs.declared.fault.SceneFault.{SceneFault}
 use Rattle.scene_file.proofs.CallerLemmas.{scene-once, scene-some, fault-once, fault-none}
 use Rattle.commands.specs.Input.{ScenesLead, HasScenes, HasFaultyText, HasExtraText}
-use Rattle.commands.proofs.Runs.{Runs-either}
 
 -- no scene stands at the front
 abbrev HasNoScene : List ℕ → Type 0
@@ -40,11 +40,6 @@ pub input-once : (bytes : List ℕ) (scenes others : List Scene) → HasScenes b
 input-once bytes scenes others has also =
     (scenes-once bytes has.rest also.rest scenes others has.lead also.lead (blank-none has.rest has.space)
     (blank-none also.rest also.space)).0
-
--- Offsets within a text that leave the same of it are one.
-pub drop-once : (bytes : List ℕ) (at next : ℕ) → at ≤ length bytes → next ≤ length bytes
-    → drop at bytes ≡ drop next bytes → at ≡ next
-drop-once bytes at next within also same = omega (arith, ap length same, length-drop at bytes, length-drop next bytes)
 
 -- The first text with a fault is determined, and so is the fault.
 pub faulty-once : (bytes : List ℕ) (number other : ℕ) (fault why : SceneFault) → HasFaultyText bytes number fault

@@ -1,18 +1,17 @@
 -- Every input is answered with a text into which an item is inserted, or refused.
-use Rattle.std.proofs.Common.{◌≡◌, inl, inr, ℕ, List, [], ◌∷◌, All, Option, Some, None, Result, Ok, Err, suc, true, refl, sym, ap, subst}
+use Rattle.std.proofs.Common.{◌≡◌, inl, inr, ℕ, List, [], ◌∷◌, All, Option, Some, None, Result, Ok, Err, true, refl, sym, subst}
 use Rattle.std.proofs.lemmas.List.Elements.{All-contains}
 use Rattle.json_text.proofs.CallerLemmas.{Value-compact}
 use Rattle.elem.specs.ElementValue.{ElementValue}
 use Rattle.elem_read.specs.Reading.{IsWholeElement}
 use Rattle.copies.specs.Copies.{copies_of}
 use Rattle.board_paste.specs.Pasting.{first_stored}
-use Rattle.clips.specs.Placed.{elements_in}
 use Rattle.clips.proofs.CallerLemmas.{live-all, placed-whole}
 use Rattle.library.specs.Best.{AreBest, item_of}
 use Rattle.library.specs.Inserting.{clip_of, placed_from}
 use Rattle.library.specs.Reading.{IsLibraryOf, IsWholeItem}
 use Rattle.library.specs.declared.item.Item.{Item}
-use Rattle.library.proofs.CallerLemmas.{best-exist, best-found, best-none, library-or-fault, library-whole}
+use Rattle.library.proofs.CallerLemmas.{best-exist, best-found, best-none, library-or-fault, library-whole, elements-placed}
 use Rattle.scene_file.specs.Heads.{Heading}
 use Rattle.scene_file.specs.declared.scene.Scene.{Scene}
 use Rattle.commands.specs.Answers.{IsAnswer}
@@ -34,13 +33,9 @@ item-elements item is =
     let elements = is.says.elements in
     subst (All IsWholeElement) (sym elements.elements_are) (placed-whole is.says.values elements.placed elements.read)
 
-same-placed : (place : ℕ) (elements : List ElementValue) → elements ≡ elements_in (placed_from place elements)
-same-placed place [] = refl
-same-placed place (e ∷ elements) = ap (λ es. e ∷ es) (same-placed (suc place) elements)
-
 clip-whole : (item : Item) → IsWholeItem item → All IsWholeElement (clip_of item).elements
 clip-whole item is = live-all IsWholeElement (placed_from 0 item.elements)
-    (subst (All IsWholeElement) (same-placed 0 item.elements) (item-elements item is))
+    (subst (All IsWholeElement) (elements-placed 0 item.elements) (item-elements item is))
 
 -- ---- answers
 module _ (insertion : Insertion) (bytes : List ℕ) (names : is_name insertion.prefix ≡ true) where

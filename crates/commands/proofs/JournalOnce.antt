@@ -1,14 +1,12 @@
 -- A journal is told as one text, or has one first fault.
-use Rattle.std.proofs.Common.{◌≡◌, ◌⊎◌, inl, inr, ℕ, ◌+◌, List, [], ◌∷◌, ◌++◌, length, Result, Ok, Err, refl, sym, ap, ap₂, subst, ◌∙◌, arith}
-use Rattle.json_text.specs.Characters.{is_blank}
-use Rattle.json_text.proofs.CallerLemmas.{Stands-once}
+use Rattle.std.proofs.Common.{◌≡◌, ◌⊎◌, inl, inr, ℕ, ◌+◌, List, [], ◌∷◌, ◌++◌, length, Result, Ok, Err, refl, sym, ap, ap₂, subst, ◌∙◌}
 use Rattle.json_reader.specs.declared.fault.JsonFault.{JsonFault}
 use Rattle.elem.specs.ElementValue.{ElementValue}
-use Rattle.room_msg.specs.Messages.{StandsAlone, HasMore, IsReadAs}
+use Rattle.room_msg.specs.Messages.{StandsAlone, IsReadAs}
 use Rattle.room_msg.specs.declared.fault.MsgFault.{MsgFault}
 use Rattle.room_msg.specs.declared.fault.MsgFault.TheVariants.{Json as Unread}
 use Rattle.room_msg.specs.declared.message.Message.{Message}
-use Rattle.room_msg.proofs.CallerLemmas.{answer-once}
+use Rattle.room_msg.proofs.CallerLemmas.{answer-once, more-alone}
 use Rattle.scene_file.specs.Heads.{Heading}
 use Rattle.scene_file.specs.Reading.{IsSceneFaultAt}
 use Rattle.scene_file.specs.Scenes.{state_text}
@@ -29,7 +27,6 @@ use Rattle.commands.specs.declared.status.Refusal.TheVariants as refusal
 use Rattle.commands.specs.declared.words.Command.TheVariants.{Recover}
 use Rattle.commands.specs.declared.words.Form.{Form}
 use Rattle.commands.specs.declared.words.Form.TheVariants as form
-use Rattle.commands.proofs.Inputs.{blank-whole}
 use Rattle.commands.proofs.Shows.{scene-once}
 
 -- what a line that is no update is read as
@@ -43,16 +40,6 @@ abbrev given : Message → Result Message MsgFault
 given message = Ok message
 
 -- ---- the first line
-more-alone : (bytes text : List ℕ) (at : ℕ) → HasMore bytes at → StandsAlone bytes text → ⊥
-more-alone bytes text at more alone =
-    let rest = (Stands-once more.stands alone.stands).1 in
-    absurd (omega (
-      arith,
-      more.behind,
-      more.more,
-      blank-whole bytes more.after (ap is_blank rest
-          ∙ alone.space) more.within,
-    ))
 
 unread-alone : (line text : List ℕ) (fault : JsonFault) → IsReadAs line (unread fault) → StandsAlone line text → ⊥
 unread-alone line text fault (inl first) alone = first.faulty text alone.rest alone.stands

@@ -27,7 +27,6 @@ pub mod PasteOnce
 pub mod ReadShelves
 pub mod Readers
 pub mod Reread
-pub mod Runs
 pub mod Scenes
 pub mod Served
 pub mod SessionTexts

@@ -1,32 +1,31 @@
 -- Every input is answered with a text into which a clip is pasted, or refused.
 use Rattle.std.proofs.Common.{◌≡◌, inl, inr, ℕ, List, [], ◌∷◌, ◌++◌, All, Option, Some, None, IfSome, Result, Ok, Err, true, length, refl, sym, ap, subst, zero, suc, slice_get, option_and_then}
-use Rattle.std.specs.List.{list_all}
 use Rattle.std.specs.Str.{IsUtf8}
-use Rattle.std.proofs.lemmas.Bool.{and_parts}
 use Rattle.std.proofs.lemmas.List.{append-nil}
 use Rattle.json_text.specs.Compact.{Member as Pair}
 use Rattle.json_text.specs.Members.{pairs}
 use Rattle.json_text.proofs.CallerLemmas.{Value-compact}
 use Rattle.elem.specs.ElementValue.{ElementValue}
-use Rattle.elem.proofs.CallerLemmas.{AreKept, IsKept, with_index, AllByRecursion-append}
+use Rattle.elem.proofs.CallerLemmas.{AreKept, IsKept, AllByRecursion-append}
 use Rattle.elem_store.proofs.CallerLemmas.{stored-exist}
 use Rattle.file_table.specs.Table.{AreLeastEntries}
 use Rattle.file_table.proofs.CallerLemmas.{files-exist, AreLeastEntries-none}
 use Rattle.frac_keys.specs.Keys.{is_key}
 use Rattle.frac_keys.specs.Between.{keys_between}
-use Rattle.index_repair.specs.Keyed.{keyed, index_of}
+use Rattle.index_repair.specs.Keyed.{index_of}
+use Rattle.index_repair.proofs.CallerLemmas.{keyed-kept}
 use Rattle.scene_file.specs.Heads.{Heading}
 use Rattle.scene_file.specs.declared.layout.Layout.TheVariants.{Compact}
 use Rattle.scene_file.specs.declared.scene.Scene.{Scene}
-use Rattle.scene_file.proofs.CallerLemmas.{AllFit, HasText, IsFit, all-sound, heads-fit, joined-exists, joined-fits, stored-kept, updates-kept}
+use Rattle.scene_file.proofs.CallerLemmas.{AllFit, HasText, IsFit, all-sound, heads-fit, joined-exists, joined-fits, stored-kept, updates-kept, fit-members}
 use Rattle.clips.specs.Clips.{IsClipOf}
 use Rattle.copies.specs.Copies.{copies_of}
 use Rattle.board_paste.specs.Pasting.{IsClipHead, first_stored, last_key, pasted}
 use Rattle.clips.specs.declared.clip.Clip.{Clip}
 use Rattle.clips.proofs.CallerLemmas.{clip-files, clip-or-fault, clip-whole, copies-whole}
 use Rattle.elem_read.specs.Reading.{IsWholeElement}
-use Rattle.frac_keys.specs.Rising.{ends_rise, is_key_or_none}
-use Rattle.frac_keys.proofs.CallerLemmas.{keys_between-law}
+use Rattle.frac_keys.specs.Rising.{is_key_or_none}
+use Rattle.frac_keys.proofs.CallerLemmas.{keys_between-law, ends_rise-none}
 use Rattle.view.specs.Shown.{live_elements, shown}
 use Rattle.view.proofs.CallerLemmas.{live-kept, shown-kept}
 use Rattle.commands.specs.Answers.{IsAnswer}
@@ -39,16 +38,9 @@ use Rattle.commands.specs.declared.status.Refusal.TheVariants as refusal
 use Rattle.commands.specs.declared.words.Command.TheVariants.{Paste}
 use Rattle.commands.proofs.FrontExists.{front-exists}
 use Rattle.commands.proofs.Names.{name-utf8}
-use Rattle.commands.proofs.Shows.{members-fit, scene-exists, wholes-kept}
+use Rattle.commands.proofs.Shows.{scene-exists, wholes-kept}
 
 -- ---- what is pasted
-keyed-kept : (es : List ElementValue) (keys : List (List ℕ)) → list_all is_key keys ≡ true → AreKept es
-    → AreKept (keyed es keys)
-keyed-kept [] keys are all = tt
-keyed-kept (e ∷ es) [] are all = tt
-keyed-kept (e ∷ es) (key ∷ keys) are all =
-    let parts = and_parts (is_key key) (list_all is_key keys) are in
-    (with_index e all.0 (Some key) parts.0, keyed-kept es keys parts.1 all.1)
 
 key-or-none : (index : Option (List ℕ)) → IfSome index (λ k. is_key k ≡ true) → is_key_or_none index ≡ true
 key-or-none None is = refl
@@ -60,10 +52,6 @@ nth-key [] n all = refl
 nth-key (e ∷ es) zero all = key-or-none e.index all.0.written.index
 nth-key (e ∷ es) (suc n) all = nth-key es n all.1
 
-ends-open : (low : Option (List ℕ)) → ends_rise low None ≡ true
-ends-open None = refl
-ends-open (Some key) = refl
-
 pasted-kept : (stored elements : List ElementValue) (prefix : List ℕ) → IsUtf8 prefix → AreKept stored
     → All IsWholeElement elements → AreKept (pasted stored elements prefix)
 unfolding pasted
@@ -72,7 +60,7 @@ pasted-kept stored elements prefix utf8 all whole =
     let copies = copies_of elements prefix in
     let law = keys_between-law low None (length copies)
     (nth-key (shown (live_elements stored)) _ (shown-kept (live_elements stored) (live-kept stored all))) refl
-    (ends-open low) in
+    (ends_rise-none low) in
     keyed-kept copies (keys_between low None (length copies)) law.are_keys
     (wholes-kept copies (copies-whole elements prefix utf8 whole))
 
@@ -159,7 +147,7 @@ module _ (prefix bytes : List ℕ) (names : is_name prefix ≡ true) where
             front.first.text,
             front.first.says,
           ) (clip-whole text clip is)
-          (members-fit (pairs clip.files) (clip-files text clip is)) board.2 new in
+          (fit-members (pairs clip.files) (clip-files text clip is)) board.2 new in
           (Ok made.0, record { scene = scene; clip = clip; holds = (text, front, is); is = made.1 })
       by (Some place) exists = (
         Err (refusal.Exists place),

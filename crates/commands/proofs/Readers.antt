@@ -6,7 +6,6 @@ use Rattle.std.proofs.lemmas.Grind.{flat_map-append}
 use Rattle.std.proofs.lemmas.Bool.{false≢true}
 use Rattle.std.proofs.lemmas.Bool.Decides.{nat_tests}
 use Rattle.json_text.specs.Characters.{is_blank}
-use Rattle.json_text.specs.Value.{Stands}
 use Rattle.intake.specs.Texts.{TextsLead, HasTexts, IsStopped}
 use Rattle.intake.specs.declared.reading.Stopped.{Stopped}
 use Rattle.intake.specs.declared.reading.Stopped.TheVariants.{Faulty, Refused, Extra}
@@ -17,10 +16,11 @@ use Rattle.commands.specs.Boards.{IsBoardOf, heads_of, updates_of}
 use Rattle.commands.specs.Readers.{SayScenes, SayBoard, AreJoined, BoardSoFar, HeadsSoFar, board_seen, one_seen, listed, refusal_of}
 use Rattle.commands.specs.Input.{ScenesLead, HasScenes}
 use Rattle.scene_file.specs.Heads.{Heading, IsJoinedHead}
-use Rattle.scene_file.specs.Reading.{IsSceneOf, IsSceneFault, IsSceneAt, IsSceneFaultAt}
+use Rattle.scene_file.specs.Reading.{IsSceneOf, IsSceneAt, IsSceneFaultAt}
 use Rattle.scene_file.specs.declared.scene.Scene.{Scene}
 use Rattle.scene_file.specs.declared.fault.SceneFault.{SceneFault}
-use Rattle.scene_file.specs.declared.fault.SceneFault.TheVariants.{Json, NotObject, NotScene, Elements, AppState, Files, Element}
+use Rattle.scene_file.specs.declared.fault.SceneFault.TheVariants.{Json}
+use Rattle.scene_file.proofs.CallerLemmas.{fault-at}
 
 pub say-more : (texts : List (List ℕ)) (scenes : List Scene) (text : List ℕ) (scene : Scene) → SayScenes texts scenes
     → IsSceneOf text scene → SayScenes (texts ++ text ∷ []) (scenes ++ scene ∷ [])
@@ -87,17 +87,6 @@ none-listed (scene ∷ scenes) next counted first = absurd (omega (arith, counte
 some-listed : (scenes : List Scene) (next : ℕ) → next ≡ length scenes + 1 → (next == 1) ≡ false → scenes ≡ [] → ⊥
 some-listed scenes next counted later none =
     false≢true (sym later ∙ ap (λ n. n == 1) (counted ∙ ap (λ (xs : List Scene). length xs + 1) none))
-
--- a text that is refused has the fault
-fault-at : (bytes : List ℕ) (at : ℕ) (text rest : List ℕ) (fault : SceneFault) → Stands (drop at bytes) text rest
-    → IsSceneFault text fault → IsSceneFaultAt bytes at fault
-fault-at bytes at text rest (Json fault) stands is = absurd is
-fault-at bytes at text rest NotObject stands is = (text, rest, stands, is)
-fault-at bytes at text rest NotScene stands is = (text, rest, stands, is)
-fault-at bytes at text rest Elements stands is = (text, rest, stands, is)
-fault-at bytes at text rest AppState stands is = (text, rest, stands, is)
-fault-at bytes at text rest Files stands is = (text, rest, stands, is)
-fault-at bytes at text rest (Element place why) stands is = (text, rest, stands, is)
 
 -- a reader of one scene that is open has read no text
 pub one-open : (scene : Option Scene) (texts : List (List ℕ)) → is_some scene ≡ false → SayScenes texts (listed scene)
@@ -210,3 +199,7 @@ one-refused bytes (Some scene) (Extra place) h =
         more = h.more;
       },
     )
+
+-- a text behind others isn't the first
+pub later-number : (n m : ℕ) → n ≡ m + 1 → 1 ≤ m → (n == 1) ≡ false
+later-number n m next some = grind (arith, nat_tests)

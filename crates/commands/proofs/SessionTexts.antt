@@ -1,5 +1,5 @@
 -- The texts that a reader of a session has read, and what stops it.
-use Rattle.std.proofs.Common.{◌≡◌, ◌⊎◌, inl, inr, ℕ, ◌+◌, ◌<◌, ◌≤◌, ◌==◌, List, [], ◌∷◌, ◌++◌, Bool, true, false, refl, sym, ap, subst, length, drop, arith, length-append, length-drop, Ok, Option, None, Some}
+use Rattle.std.proofs.Common.{◌≡◌, inl, inr, ℕ, ◌+◌, ◌<◌, ◌≤◌, ◌==◌, List, [], ◌∷◌, ◌++◌, true, false, refl, sym, ap, subst, length, drop, arith, length-append, length-drop, Ok, Option, None, Some}
 use Rattle.std.specs.Prelude.{is_none}
 use Rattle.std.proofs.lemmas.Bool.{false≢true}
 use Rattle.std.proofs.lemmas.Bool.Decides.{nat_tests}
@@ -17,6 +17,7 @@ use Rattle.session_text.specs.declared.fault.SessionFault.TheVariants.{In, TooMa
 use Rattle.session_text.specs.declared.fault.TextFault.{TextFault}
 use Rattle.session_text.specs.declared.fault.TextFault.TheVariants.{Json}
 use Rattle.session_text.specs.declared.session.Session.{Session}
+use Rattle.session_text.proofs.CallerLemmas.{begun-at}
 use Rattle.commands.specs.Answers.{IsSessionRefusal}
 use Rattle.commands.specs.SessionTexts.{SayEvents, SaySession, session_seen, session_refusal_of}
 
@@ -94,10 +95,6 @@ session-read bytes session h = record {
       lead-to bytes session h.texts h.start h.behind.read h.behind.within h.behind.lead;
   space = h.space;
 }
-
-begun-at : (more : Bool) → (false ≡ true) ⊎ (more ≡ false) → more ≡ false
-begun-at more (inl never) = absurd (false≢true never)
-begun-at more (inr is) = is
 
 pub session-refused : (bytes : List ℕ) (state : Option Session) (stopped : Stopped TextFault)
     → IsStopped bytes (session_seen state) stopped

@@ -2,7 +2,7 @@
 use Rattle.std.proofs.Common.{◌≡◌, ◌≢◌, ◌⊎◌, inl, inr, ℕ, zero, suc, ◌+◌, ◌<◌, ◌≤◌, List, [], ◌∷◌, ◌++◌, true, false, length, drop, Result, Ok, Err, refl, sym, subst, arith}
 use Rattle.json_text.specs.Characters.{is_blank, is_space}
 use Rattle.json_text.specs.Value.{Stands}
-use Rattle.json_text.proofs.CallerLemmas.{Value-compact}
+use Rattle.json_text.proofs.CallerLemmas.{Value-compact, Runs-either}
 use Rattle.json_reader.proofs.CallerLemmas.{value-or-fault}
 use Rattle.intake.specs.Texts.{TextsLead}
 use Rattle.library.specs.Items.{library_text}
@@ -18,7 +18,6 @@ use Rattle.commands.specs.Shelves.{HasLibrariesTo, HasTexts, IsShelfRefusal}
 use Rattle.commands.specs.declared.status.Refusal.{Refusal}
 use Rattle.commands.specs.declared.status.Refusal.TheVariants as refusal
 use Rattle.commands.specs.declared.words.Command.TheVariants.{Library}
-use Rattle.commands.proofs.Runs.{Runs-either}
 use Rattle.commands.proofs.ReadShelves.{have-more}
 
 -- the libraries of an input, or its first faulty text

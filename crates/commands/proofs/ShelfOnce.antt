@@ -3,7 +3,7 @@ use Rattle.std.proofs.Common.{◌≡◌, ◌⊎◌, inl, inr, ℕ, ◌+◌, List
 use Rattle.std.proofs.lemmas.Bool.{both_ways}
 use Rattle.json_text.specs.Characters.{is_blank}
 use Rattle.json_text.specs.Value.{Stands}
-use Rattle.json_text.proofs.CallerLemmas.{Stands-once}
+use Rattle.json_text.proofs.CallerLemmas.{Stands-once, drop-once}
 use Rattle.json_reader.specs.Faults.{IsFirstFault}
 use Rattle.json_reader.specs.declared.fault.JsonFault.{JsonFault}
 use Rattle.intake.specs.Texts.{TextsLead}
@@ -21,7 +21,6 @@ use Rattle.commands.specs.Shelves.{HasFaultyLibrary, HasFaultyValue, HasLibrarie
 use Rattle.commands.specs.declared.status.Refusal.{Refusal}
 use Rattle.commands.specs.declared.status.Refusal.TheVariants as refusal
 use Rattle.commands.specs.declared.words.Command.TheVariants.{Library}
-use Rattle.commands.proofs.Inputs.{drop-once}
 
 -- no library stands at the front
 abbrev HasNone : List ℕ → Type 0

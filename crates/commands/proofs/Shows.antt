@@ -1,13 +1,8 @@
 -- What is stored is shown as one text, and as some text where it is whole.
-use Rattle.std.proofs.Common.{◌≡◌, ℕ, List, [], ◌∷◌, ◌++◌, All, true, refl, sym, ap, subst, ◌∙◌}
+use Rattle.std.proofs.Common.{◌≡◌, ℕ, List, [], ◌++◌, All, true, refl, sym, ap, subst, ◌∙◌}
 use Rattle.std.proofs.lemmas.List.Elements.{All-weaker}
 use Rattle.json_text.specs.Members.{pairs}
-use Rattle.json_text.specs.Compact.{Member as Pair}
-use Rattle.json_text.specs.Parts.{AreMembers}
-use Rattle.json_text.specs.Value.{IsCompact}
 use Rattle.scene_json.specs.Named.{HaveRisingNames}
-use Rattle.std.specs.List.{AllByRecursion}
-use Rattle.std.specs.Str.{IsUtf8}
 use Rattle.elem.specs.ElementValue.{ElementValue}
 use Rattle.elem.specs.Facts.{IsElement}
 use Rattle.elem.specs.Said.{HasValidTexts as IsWrittenElement}
@@ -24,7 +19,7 @@ use Rattle.scene_file.specs.Heads.{Heading}
 use Rattle.scene_file.specs.Scenes.{scene_text}
 use Rattle.scene_file.specs.Whole.{IsWholeHead}
 use Rattle.scene_file.specs.declared.layout.Layout.{Layout}
-use Rattle.scene_file.proofs.CallerLemmas.{AllFit, IsFit, scene-text-compact, text-once, written-exists}
+use Rattle.scene_file.proofs.CallerLemmas.{IsFit, scene-text-compact, text-once, written-exists, fit-members}
 use Rattle.commands.specs.Boards.{IsSceneOfStored, shown_of}
 use Rattle.commands.specs.Faults.{newline}
 
@@ -58,20 +53,11 @@ scene-exists layout head stored fit rise all ordered =
       },
     )
 
--- what is whole fits, and is kept
-fit-members : (ms : List Pair) → AllByRecursion (λ (m : Pair). IsUtf8 m.0) ms
-    → AllByRecursion (λ (m : Pair). IsCompact 126 m.1) ms → AllFit ms
-fit-members [] named valued = tt
-fit-members (m ∷ ms) named valued = (record { named = named.0; nests = valued.0 }, fit-members ms named.1 valued.1)
-
-pub members-fit : (ms : List Pair) → AreMembers 126 ms → AllFit ms
-members-fit ms are = fit-members ms are.named are.valued
-
 pub whole-fits : (head : Heading) → IsWholeHead head → IsFit head
 whole-fits head whole = record {
   source = whole.source;
-  settings = members-fit (pairs head.app_state) whole.settings;
-  files = members-fit head.files whole.files;
+  settings = fit-members (pairs head.app_state) whole.settings;
+  files = fit-members head.files whole.files;
 }
 
 pub wholes-kept : (elements : List ElementValue) → All IsWholeElement elements → AreKept elements

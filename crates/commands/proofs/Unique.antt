@@ -5,8 +5,9 @@ use Rattle.base64.specs.Engines.{standard}
 use Rattle.json_text.specs.Characters.{quote}
 use Rattle.json_text.specs.Compact.{Member as Pair}
 use Rattle.scene_json.specs.Named.{value_at}
+use Rattle.scene_json.proofs.CallerLemmas.{quote-once}
 use Rattle.elem.specs.ElementValue.{ElementValue}
-use Rattle.elem.proofs.CallerLemmas.{object-once, quote-once}
+use Rattle.elem.proofs.CallerLemmas.{object-once}
 use Rattle.elem_store.specs.Updates.{AreBest}
 use Rattle.elem_store.proofs.CallerLemmas.{store-unique, stores-converge, AreStored-from_best}
 use Rattle.file_table.specs.Picture.{HasData, HasUrl, IsDataUrl, IsPictureSize}

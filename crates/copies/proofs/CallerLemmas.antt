@@ -1,4 +1,3 @@
 -- The lemmas that crates above cite; nothing else of this folder is cited there.
 pub use Rattle.copies.proofs.CopyKept.{all-copied, copies-elements, copies-length, element-copied, texts-copied}
-pub use Rattle.copies.proofs.CopyNames.{copies-distinct, copied, copy-id, copy-named, original}
-pub use Rattle.copies.proofs.Lists.{Contains-map, map-Contains}
+pub use Rattle.copies.proofs.CopyNames.{copied, copies-distinct, copy-id, copy-named, original}

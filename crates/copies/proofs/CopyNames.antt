@@ -4,6 +4,7 @@ use Rattle.std.proofs.lemmas.Bool.{cond-true}
 use Rattle.std.proofs.lemmas.List.{append_cancel_left}
 use Rattle.std.proofs.lemmas.Option.{same_Some}
 use Rattle.std.specs.List.{IsDistinct}
+use Rattle.json_text.proofs.CallerLemmas.{Contains-map, Contains-to_map}
 use Rattle.elem.specs.declared.kind.Role.{Role}
 use Rattle.elem.specs.declared.parts.BoundRef.{BoundRef}
 use Rattle.elem.specs.declared.parts.Binding.{Binding}
@@ -12,7 +13,7 @@ use Rattle.elem.specs.Order.{HaveDistinctIds}
 use Rattle.elem_store.proofs.CallerLemmas.{Contains-filter, filter-Contains}
 use Rattle.copies.specs.Copies.{copied_end, copied_entries, copied_entry, copied_name, copies_of, copy_among, is_among}
 use Rattle.copies.specs.Naming.{Way, ByStart, ByEnd, ByContainer, ByFrame, ByListing, IsBoundTo, Names, copy_of}
-use Rattle.copies.proofs.Lists.{map-Contains, Contains-map, among-is, is-among, distinct-under}
+use Rattle.copies.proofs.Lists.{among-is, is-among, distinct-under}
 
 -- ---- each way, where the ids that are copied are told by a test
 module _ (among : List ℕ → Bool) (prefix : List ℕ) where
@@ -74,7 +75,7 @@ module _ (among : List ℕ → Bool) (prefix : List ℕ) where
       → Contains (copied_entries among prefix entries) (entry_of role new)
       → (id : List ℕ) × (among id ≡ true) × Contains entries (entry_of role id) × (new ≡ prefix ++ id)
   entry-to entries role new c =
-      let m = map-Contains (copied_entry prefix) (filter (λ (entry : BoundRef). among entry.id) entries)
+      let m = Contains-map (copied_entry prefix) (filter (λ (entry : BoundRef). among entry.id) entries)
       (entry_of role new) c in
       let k = filter-Contains (λ (entry : BoundRef). among entry.id) entries m.0 m.1 in
       let named : prefix ++ m.0.id ≡ new = ap (λ (entry : BoundRef). entry.id) m.2 in
@@ -85,7 +86,7 @@ module _ (among : List ℕ → Bool) (prefix : List ℕ) where
       → Contains entries (entry_of role id)
       → Contains (copied_entries among prefix entries) (entry_of role (prefix ++ id))
   entry-from entries role id t c =
-      Contains-map (copied_entry prefix) (filter (λ (entry : BoundRef). among entry.id) entries) (entry_of role id)
+      Contains-to_map (copied_entry prefix) (filter (λ (entry : BoundRef). among entry.id) entries) (entry_of role id)
       (Contains-filter (λ (entry : BoundRef). among entry.id) entries (entry_of role id) c t)
 
   entry-as : (entries : List BoundRef) (role : Role) (id : List ℕ) → among id ≡ true
@@ -123,15 +124,15 @@ module _ (among : List ℕ → Bool) (prefix : List ℕ) where
       ↔ Contains e.groups group
   unfolding copy_among
   groups-as e group = (
-    λ c. let m = map-Contains (λ x. prefix ++ x) e.groups (prefix ++ group) c in
+    λ c. let m = Contains-map (λ x. prefix ++ x) e.groups (prefix ++ group) c in
         subst (Contains e.groups) (append_cancel_left prefix m.0 group m.2) m.1,
-    Contains-map (λ x. prefix ++ x) e.groups group,
+    Contains-to_map (λ x. prefix ++ x) e.groups group,
   )
 
   groups-to : (e : ElementValue) (name : List ℕ) → Contains (copy_among among prefix e).groups name → (group : List ℕ)
       × (name ≡ prefix ++ group) × Contains e.groups group
   unfolding copy_among
-  groups-to e name c = let m = map-Contains (λ x. prefix ++ x) e.groups name c in (m.0, sym m.2, m.1)
+  groups-to e name c = let m = Contains-map (λ x. prefix ++ x) e.groups name c in (m.0, sym m.2, m.1)
 
   ids-under : (list : List ElementValue) → map (λ (e : ElementValue). e.id) (map (copy_among among prefix) list)
       ≡ map (λ x. prefix ++ x) (map (λ (e : ElementValue). e.id) list)
@@ -152,12 +153,12 @@ copies-name list prefix way e other c =
 pub original : (list : List ElementValue) (prefix : List ℕ) (copy : ElementValue)
     → Contains (copies_of list prefix) copy → (e : ElementValue) × Contains list e × (copy_of list prefix e ≡ copy)
 unfolding copies_of
-original list prefix copy c = map-Contains (copy_among (is_among list) prefix) list copy c
+original list prefix copy c = Contains-map (copy_among (is_among list) prefix) list copy c
 
 pub copied : (list : List ElementValue) (prefix : List ℕ) (e : ElementValue) → Contains list e
     → Contains (copies_of list prefix) (copy_of list prefix e)
 unfolding copies_of
-copied list prefix e c = Contains-map (copy_among (is_among list) prefix) list e c
+copied list prefix e c = Contains-to_map (copy_among (is_among list) prefix) list e c
 
 pub copy-named : (list : List ElementValue) (prefix : List ℕ) (e : ElementValue)
     → (copy_of list prefix e).id ≡ prefix ++ e.id

@@ -1,30 +1,14 @@
--- What a list contains after each item was changed, and which ids are among elements.
-use Rattle.std.proofs.Common.{◌≡◌, ℕ, Bool, true, false, ◌||◌, List, [], ◌∷◌, ◌++◌, Contains, map, bytes_eq, refl, sym, ap, ◌∙◌, subst, inl, inr, arith}
+-- Which ids are among elements.
+use Rattle.std.proofs.Common.{◌≡◌, ℕ, true, false, ◌||◌, List, [], ◌∷◌, ◌++◌, Contains, map, bytes_eq, sym, ap, ◌∙◌, inl, inr, arith}
 use Rattle.std.specs.List.{IsDistinct, AllByRecursion}
 use Rattle.std.proofs.lemmas.Bool.{false≢true, cases_Bool}
 use Rattle.std.proofs.lemmas.List.{append_cancel_left}
+use Rattle.std.proofs.Math.Bool.{or-true}
 use Rattle.json_text.proofs.CallerLemmas.{bytes_eq-apart, bytes_eq-same}
 use Rattle.elem.specs.ElementValue.{ElementValue}
 use Rattle.elem.specs.Order.{has_id}
 use Rattle.elem_store.proofs.CallerLemmas.{Contains-cases, Contains-cons, Contains-head, of_itself, same_id}
 use Rattle.copies.specs.Copies.{is_among}
-
-module _ {X Y : Type 0} (f : X → Y) where
-  pub map-Contains : (xs : List X) (y : Y) → Contains (map f xs) y → (x : X) × Contains xs x × (f x ≡ y)
-  map-Contains [] y c = absurd (omega (arith, c.1))
-  map-Contains (x ∷ xs) y c =
-      elim (Contains-cases (f x) (map f xs) y c) [
-        | inl e ↦ (x, Contains-head x xs, e)
-        | inr r ↦ let m = map-Contains xs y r in (m.0, Contains-cons x xs m.0 m.1, m.2)
-      ]
-
-  pub Contains-map : (xs : List X) (x : X) → Contains xs x → Contains (map f xs) (f x)
-  Contains-map [] x c = absurd (omega (arith, c.1))
-  Contains-map (y ∷ xs) x c =
-      elim (Contains-cases y xs x c) [
-        | inl e ↦ subst (λ z. Contains (f y ∷ map f xs) (f z)) e (Contains-head (f y) (map f xs))
-        | inr r ↦ Contains-cons (f y) (map f xs) (f x) (Contains-map xs x r)
-      ]
 
 -- ---- ids among elements
 pub among-is : (xs : List ElementValue) (id : List ℕ) → is_among xs id ≡ true → (other : ElementValue)
@@ -44,10 +28,6 @@ is-among (x ∷ xs) other c =
       | inl e ↦ ap (λ b. b || is_among xs other.id) (ap (λ (y : ElementValue). has_id other.id y) e ∙ of_itself other)
       | inr r ↦ ap (λ b. has_id other.id x || b) (is-among xs other r) ∙ or-true (has_id other.id x)
     ]
-  where
-    or-true : (b : Bool) → (b || true) ≡ true
-    or-true true = refl
-    or-true false = refl
 
 -- ---- names under a prefix
 apart-under : (prefix x : List ℕ) (ys : List (List ℕ)) → AllByRecursion (λ y. bytes_eq x y ≡ false) ys

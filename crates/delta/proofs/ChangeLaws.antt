@@ -1,17 +1,17 @@
 -- Changes of an element, one after another.
 use Rattle.std.proofs.Common.{◌≡◌, ℕ, zero, suc, ◌<◌, ◌≤◌, Bool, true, false, cond, List, [], ◌∷◌, ◌++◌, length, take, drop, set, get_or, map, Option, Some, None, Result, Ok, Err, OnOk, IfSome, codes, bytes_eq, if◌then◌else◌, refl, sym, ap, ◌∙◌, subst, arith}
-use Rattle.std.specs.List.{AllByRecursion, IsDistinct, list_any}
+use Rattle.std.specs.List.{AllByRecursion, list_any}
 use Rattle.std.specs.Option.{option_or}
-use Rattle.std.proofs.lemmas.Bool.{false≢true}
 use Rattle.std.proofs.lemmas.List.Folds.{find-append}
+use Rattle.std.proofs.lemmas.Option.{none-some}
 use Rattle.json_text.specs.Members.{pairs}
 use Rattle.json_text.specs.Value.{IsCompact}
 use Rattle.json_text.specs.declared.text.Member.{Member}
-use Rattle.json_text.proofs.CallerLemmas.{bytes_eq-true, bytes_eq-same, bytes_eq-apart}
+use Rattle.json_text.proofs.CallerLemmas.{bytes_eq-true, bytes_eq-apart}
 use Rattle.frac_keys.specs.Rising.{are_rising}
 use Rattle.elem.specs.ElementValue.{ElementValue}
 use Rattle.elem.specs.Facts.{IsElement, is_header, names}
-use Rattle.elem.proofs.CallerLemmas.{IsRising}
+use Rattle.elem.proofs.CallerLemmas.{IsRising, each-list_any, list_any-each}
 use Rattle.delta.specs.declared.change.Change.{Change}
 use Rattle.delta.specs.declared.change.Change.TheVariants.{Scalar, Groups, Bound}
 use Rattle.delta.specs.declared.header.Header.{Header}
@@ -23,7 +23,7 @@ use Rattle.delta.specs.inner.Kept.{IsScalarSet}
 use Rattle.delta.specs.Parts.{change_of, inverted, inverse}
 use Rattle.delta.specs.Rest.{made, with_value}
 use Rattle.delta.proofs.HeaderLaws.{header_kept}
-use Rattle.delta.proofs.RestLaws.{risen, rises, rising-with_value, each-with_value, named-with_value, list_any-each, each-list_any}
+use Rattle.delta.proofs.RestLaws.{risen, rises, rising-with_value, each-with_value, named-with_value}
 
 pub OnOk-weaker : {T E : Type 0} (r : Result T E) (P Q : Type 0) → (P → Q) → OnOk r P → OnOk r Q
 OnOk-weaker (Ok x) P Q f h = f h
@@ -136,9 +136,6 @@ Changes-more cs c a b d first next none = record {
       ∙ joins bound_after (λ x. refl) (codes "boundElements") a.bound;
 }
   where
-    none-some : (x : Change) → None ≡ Some x → ⊥
-    none-some x e = cc
-
     chosen : {X : Type 0} (after : Option Change → X → X) → ((x : X) → after None x ≡ x)
         → (x : X) (o : Option Change) (b : Bool) → (b ≡ true → o ≡ None)
         → after (cond b (Some c) None) (after o x) ≡ after (option_or o (cond b (Some c) None)) x
@@ -185,7 +182,7 @@ module _ {X : Type 0} (f : X → X) where
   partly-all (x ∷ xs) zero l = absurd (omega arith)
   partly-all (x ∷ xs) (suc i) l = ap (λ ys. f x ∷ ys) (partly-all xs i (omega arith))
 
-name-inverted : (c : Change) → name_of (inverted c) ≡ name_of c
+pub name-inverted : (c : Change) → name_of (inverted c) ≡ name_of c
 name-inverted (Scalar name before after) = refl
 name-inverted (Groups before after) = refl
 name-inverted (Bound before after) = refl

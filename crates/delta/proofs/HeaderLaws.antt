@@ -2,6 +2,7 @@
 use Rattle.std.proofs.Common.{◌≡◌, ◌≢◌, ℕ, Bool, true, false, ◌||◌, List, Option, Some, None, inl, inr, codes, bytes_eq, if◌then◌else◌, refl, sym, ap, ◌∙◌}
 use Rattle.std.specs.List.{list_any}
 use Rattle.std.proofs.lemmas.Bool.{cases_Bool, false≢true, or_parts}
+use Rattle.std.proofs.lemmas.Option.{none-some, same_Some}
 use Rattle.json_text.proofs.CallerLemmas.{bytes_eq-true, bytes_eq-same, bytes_eq-apart}
 use Rattle.json_text.specs.declared.text.Member.{Member}
 use Rattle.elem.specs.declared.kind.Kind.{Kind}
@@ -24,18 +25,12 @@ header_name headers.StartBinding = codes "startBinding"
 header_name headers.EndBinding = codes "endBinding"
 header_name headers.File = codes "fileId"
 
-none-some : {X : Type 0} (x : X) → None ≡ Some x → ⊥
-none-some x e = cc
-
-some-same : {X : Type 0} (a b : X) → Some a ≡ Some b → a ≡ b
-some-same a b e = cc
-
 tested : (n : List ℕ) (k h : Header) (rest : Option Header) → (rest ≡ Some h → n ≡ header_name h)
     → (if bytes_eq n (header_name k) then Some k else rest) ≡ Some h → n ≡ header_name h
 tested n k h rest later e =
     elim (cases_Bool (bytes_eq n (header_name k))) [
       | inl t ↦ bytes_eq-true n (header_name k) t
-          ∙ ap header_name (some-same k h (sym (ap (λ b. if b then Some k else rest) t) ∙ e))
+          ∙ ap header_name (same_Some k h (sym (ap (λ b. if b then Some k else rest) t) ∙ e))
       | inr f ↦ later (sym (ap (λ b. if b then Some k else rest) f) ∙ e)
     ]
 
@@ -164,7 +159,7 @@ IsScalarSet-header old new name h v mine set = record {
         elim (cases_Bool (bytes_eq other name)) [
           | inl t ↦
               let same : k ≡ h =
-              some-same k h (sym is ∙ ap (header_named old.kind) (bytes_eq-true other name t) ∙ mine) in
+              same_Some k h (sym is ∙ ap (header_named old.kind) (bytes_eq-true other name t) ∙ mine) in
               ap (λ x. Some (scalar_text new x)) same ∙ ap Some set.text
               ∙ sym (ap (λ b. if b then Some v else Some (scalar_text old k)) t)
           | inr f ↦

@@ -1,8 +1,9 @@
 -- Compact texts tell what they are of: texts, keys, truths and bindings.
 use Rattle.std.proofs.Common.{◌≡◌, ◌≢◌, ℕ, ◌+◌, ◌*◌, ◌==◌, nat_le, Bool, true, false, not, ◌&&◌, ◌||◌, List, [], ◌∷◌, ◌++◌, get_or, map, Option, Some, None, IfSome, ◌⊎◌, inl, inr, codes, bytes_eq, refl, sym, ap, ◌∙◌, subst, append_assoc, arith}
 use Rattle.std.specs.List.{AllByRecursion, flat_map, join_with_byte}
-use Rattle.std.proofs.lemmas.Bool.{agree_below_at, cases_lt, and_parts, false≢true}
+use Rattle.std.proofs.lemmas.Bool.{agree_below_at, cases_lt, and_parts, not-true, or_cases}
 use Rattle.std.proofs.lemmas.Bool.Decides.{nat_tests}
+use Rattle.std.proofs.lemmas.Option.{same_Some}
 use Rattle.json_text.specs.Characters.{quote, quoted_byte, hex_value}
 use Rattle.json_text.specs.Compact.{Member as Pair, member_text, object_text}
 use Rattle.json_text.specs.Members.{pairs}
@@ -11,11 +12,11 @@ use Rattle.json_text.specs.Value.{IsCompact, Stands, Follows}
 use Rattle.json_text.specs.declared.text.Member.{Member}
 use Rattle.json_text.proofs.CallerLemmas.{bytes_eq-true, Value-Form, Value-deeper, form-quoted, tree-Head, first-same, tail-same, Stands-once, heads-differ}
 use Rattle.scene_json.specs.Passes.{behind_item}
-use Rattle.scene_json.proofs.CallerLemmas.{behind-split}
+use Rattle.scene_json.proofs.CallerLemmas.{behind-split, pairs-each}
 use Rattle.elem.specs.declared.parts.Binding.{Binding}
 use Rattle.elem.specs.Facts.{IsBinding, names}
 use Rattle.elem.specs.Texts.{truth_text, text_or_null, binding_text}
-use Rattle.elem.proofs.CallerLemmas.{AllByRecursion-weaker}
+use Rattle.elem.proofs.CallerLemmas.{AllByRecursion-weaker, pairs-once}
 use Rattle.delta.specs.Headers.{value_named}
 use Rattle.delta.specs.Rest.{with_value}
 use Rattle.delta.proofs.RestLaws.{risen, each-with_value, named-with_value, sorted-with_value, with_value-back, rises, rising-with_value}
@@ -43,25 +44,17 @@ stands_unit c =
 stands_coded : ℕ → Bool
 stands_coded c = stands_plain c || (stands_letter c || stands_unit c)
 
-not-true : (b : Bool) → not b ≡ true → b ≡ false
-not-true true h = absurd (false≢true h)
-not-true false h = refl
-
-or-cases : (a b : Bool) → (a || b) ≡ true → (a ≡ true) ⊎ (b ≡ true)
-or-cases true b h = inl refl
-or-cases false b h = inr h
-
 differs : (a b : ℕ) → not (a == b) ≡ true → a ≢ b
 differs a b h = let f : (a == b) ≡ false = not-true _ h in λ e. grind (arith, nat_tests)
 
 low-Coded : (c : ℕ) → stands_coded c ≡ true → Coded c (quoted_byte c)
 unfolding stands_coded stands_plain stands_letter stands_unit
-low-Coded c h = elim (or-cases (stands_plain c) (stands_letter c || stands_unit c) h) [
+low-Coded c h = elim (or_cases (stands_plain c) (stands_letter c || stands_unit c) h) [
   | inl p ↦
       let parts = and_parts (bytes_eq (quoted_byte c) (c ∷ [])) (not (c == 34) && not (c == 92)) p in
       let apart = and_parts (not (c == 34)) (not (c == 92)) parts.1 in
       subst (Coded c) (sym (bytes_eq-true _ _ parts.0)) (plain (differs c 34 apart.0) (differs c 92 apart.1))
-  | inr q ↦ elim (or-cases (stands_letter c) (stands_unit c) q) [
+  | inr q ↦ elim (or_cases (stands_letter c) (stands_unit c) q) [
     | inl p ↦
         let l = get_or (quoted_byte c) 1 0 in
         let parts = and_parts (bytes_eq (quoted_byte c) (92 ∷ l ∷ [])) (not (l == 117) && letter_meaning l == c) p in
@@ -222,18 +215,6 @@ pub object-same : (ms ns : List Pair) → AllByRecursion (λ (m : Pair). EndsIts
 unfolding object_text
 object-same ms ns are are' e = members-same ms ns are are' (tail-same e)
 
-pub pairs-same : (ms ns : List Member) → pairs ms ≡ pairs ns → ms ≡ ns
-pairs-same [] [] e = refl
-pairs-same [] (n ∷ ns) e = absurd (cc)
-pairs-same (m ∷ ms) [] e = absurd (cc)
-pairs-same (m ∷ ms) (n ∷ ns) e =
-    let first : (m.name, m.value) ≡ (n.name, n.value) = cc in
-    let name : m.name ≡ n.name = ap (λ (p : Pair). p.0) first in
-    let value : m.value ≡ n.value = ap (λ (p : Pair). p.1) first in
-    let others : pairs ms ≡ pairs ns = cc in
-    let rest = pairs-same ms ns others in
-    λ i. record { name = name i; value = value i } ∷ rest i
-
 -- ---- the members of a binding
 abbrev pub binding_members : Binding → List Member
 binding_members binding = with_value (codes "elementId") (Some (quote binding.target)) binding.rest
@@ -242,11 +223,6 @@ pub binding-object : (binding : Binding) → IsBinding binding
     → binding_text (Some binding) ≡ object_text (pairs (binding_members binding))
 binding-object binding is = ap object_text (sorted-with_value (codes "elementId") (quote binding.target) binding.rest
     (risen binding.rest is.rise) is.free)
-
-pairs-each : (P : Pair → Type 0) (ms : List Member) → AllByRecursion (λ (m : Member). P (m.name, m.value)) ms
-    → AllByRecursion P (pairs ms)
-pairs-each P [] h = tt
-pairs-each P (m ∷ ms) h = (h.0, pairs-each P ms h.1)
 
 pub binding-ends : (binding : Binding) → IsBinding binding
     → AllByRecursion (λ (m : Pair). EndsItself m.1) (pairs (binding_members binding))
@@ -268,9 +244,6 @@ pub binding-rest : (binding : Binding) → IsBinding binding
     → with_value (codes "elementId") None (binding_members binding) ≡ binding.rest
 binding-rest binding is = with_value-back (codes "elementId") (quote binding.target) binding.rest is.free
 
-some-same : {X : Type 0} (a b : X) → Some a ≡ Some b → a ≡ b
-some-same a b e = cc
-
 pub binding-same : (a b : Option Binding) → IfSome a IsBinding → IfSome b IsBinding → binding_text a ≡ binding_text b
     → a ≡ b
 unfolding object_text
@@ -278,9 +251,9 @@ binding-same None None is is' e = refl
 binding-same None (Some b) is is' e = absurd (heads-differ 110 123 _ _ refl e)
 binding-same (Some a) None is is' e = absurd (heads-differ 123 110 _ _ refl e)
 binding-same (Some a) (Some b) is is' e =
-    let all = pairs-same _ _ (object-same _ _ (binding-ends a is) (binding-ends b is') (sym (binding-object a is) ∙ e
+    let all = pairs-once _ _ (object-same _ _ (binding-ends a is) (binding-ends b is') (sym (binding-object a is) ∙ e
     ∙ binding-object b is')) in
-    let target = quote-same a.target b.target (some-same _ _ (sym (binding-target a is)
+    let target = quote-same a.target b.target (same_Some _ _ (sym (binding-target a is)
     ∙ ap (value_named (codes "elementId")) all ∙ binding-target b is')) in
     let rest = sym (binding-rest a is) ∙ ap (with_value (codes "elementId") None) all ∙ binding-rest b is' in
     λ i. Some (record { target = target i; rest = rest i })
@@ -315,7 +288,7 @@ binding-found value (Some b) is e not-null found spelled compact = record {
   is_binding = is;
   text = e;
   members =
-      pairs-same _ _ (object-same _ _ (AllByRecursion-weaker (λ (m : Pair). IsCompact 127 m.1) (λ m. EndsItself m.1)
+      pairs-once _ _ (object-same _ _ (AllByRecursion-weaker (λ (m : Pair). IsCompact 127 m.1) (λ m. EndsItself m.1)
       (pairs found) (λ m v. inl v) compact) (binding-ends b is) (sym spelled ∙ e ∙ binding-object b is));
 }
 
@@ -334,7 +307,7 @@ pub binding-made : {value : List ℕ} {found : List Member} (f : IsFound value f
     (rest : List Member) → value_named (codes "elementId") found ≡ Some (quote target)
     → rest ≡ with_value (codes "elementId") None found → f.binding ≡ record { target = target; rest = rest }
 binding-made f target rest named is =
-    let same = quote-same f.binding.target target (some-same _ _ (sym (binding-string f) ∙ named)) in
+    let same = quote-same f.binding.target target (same_Some _ _ (sym (binding-string f) ∙ named)) in
     let others =
     sym (binding-rest f.binding f.is_binding) ∙ ap (with_value (codes "elementId") None) (sym f.members) ∙ sym is in
     λ i. record { target = same i; rest = others i }

@@ -5,6 +5,7 @@ use Rattle.std.proofs.lemmas.Bool.{cases_Bool, and_parts, and_from}
 use Rattle.std.proofs.lemmas.Bool.Decides.{nat_tests}
 use Rattle.std.proofs.lemmas.List.{append-nil, take_more}
 use Rattle.std.proofs.lemmas.List.Elements.{filter-append}
+use Rattle.std.proofs.Math.Bool.{or-true}
 use Rattle.json_text.specs.FirstOccurrences.{first_occurrences}
 use Rattle.delta.specs.Joined.{are_same, is_in}
 
@@ -41,7 +42,7 @@ module _ {T : Type 0} (same : T → T → Bool) where
         | inl t ↦ ap (λ b. y ∷ filter others (if b then first_occurrences same ys else first_occurrences same ys ++ x
             ∷ [])) t
             ∙ sym (ap (λ b. if b then first_occurrences same (y ∷ ys) else first_occurrences same (y ∷ ys) ++ x ∷ [])
-            (ap (λ b. same y x || b) t ∙ or_true (same y x)))
+            (ap (λ b. same y x || b) t ∙ or-true (same y x)))
         | inr f ↦ ap (λ b. y ∷ filter others (if b then first_occurrences same ys else first_occurrences same ys ++ x
             ∷ [])) f
             ∙ ap (λ zs. y ∷ zs) (filter-append others (first_occurrences same ys) (x ∷ []))
@@ -50,10 +51,6 @@ module _ {T : Type 0} (same : T → T → Bool) where
             ++ x ∷ []) f)
       ])
     where
-      or_true : (b : Bool) → (b || true) ≡ true
-      or_true true = refl
-      or_true false = refl
-
       nil : (zs : List T) → zs ++ [] ≡ zs
       nil [] = refl
       nil (z ∷ zs) = ap (λ r. z ∷ r) (nil zs)

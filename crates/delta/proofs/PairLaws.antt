@@ -1,9 +1,10 @@
 -- Entries that grow by a part.
-use Rattle.std.proofs.Common.{◌≡◌, ℕ, true, List, [], ◌∷◌, ◌++◌, map, Option, Some, None, Contains, codes, refl, sym, ap, ap₂, ◌∙◌, subst, inl, inr, arith}
+use Rattle.std.proofs.Common.{◌≡◌, ℕ, true, List, [], ◌∷◌, ◌++◌, map, Some, None, Contains, codes, refl, sym, ap, ap₂, ◌∙◌, subst, inl, inr, arith}
 use Rattle.std.proofs.lemmas.List.Elements.{Contains-append_left, Contains-push, Contains-push_cases}
 use Rattle.frac_keys.specs.Keys.{bytes_less}
 use Rattle.delta.specs.Delta.{Delta}
 use Rattle.frac_keys.specs.Rising.{are_rising}
+use Rattle.json_text.proofs.CallerLemmas.{Contains-map, Contains-to_map}
 use Rattle.elem.specs.ElementValue.{ElementValue}
 use Rattle.elem.specs.Order.{unstamped}
 use Rattle.delta.specs.declared.header.Header.{Header}
@@ -14,7 +15,7 @@ use Rattle.delta.proofs.ChangeLaws.{AreParts-inverse, names-inverted}
 use Rattle.delta.proofs.PartLaws.{part-once, turned, change-inverted, scalar-turned, groups-turned, bound-turned}
 use Rattle.delta.proofs.Placing.{same_members}
 use Rattle.delta.specs.Pairs.{Pair, IsChanged, IsUnchanged, IsPartOf, EntryStandsFor, IsSamePair, HasSamePairs, exchanged}
-use Rattle.delta.proofs.RisingIds.{Contains-map, Contains-to_map, rising-push}
+use Rattle.delta.proofs.RisingIds.{rising-push}
 
 module _ (parts : List Delta) (pairs : List Pair) (pair : Pair) (stands : EntryStandsFor parts pairs) where
   -- a changed pair behind those of lesser ids has a part behind the parts

@@ -1,7 +1,10 @@
 -- What parts say of the elements that they stand for.
-use Rattle.std.proofs.Common.{◌≡◌, ℕ, Bool, true, false, cond, ◌||◌, List, [], ◌∷◌, ◌++◌, filter, map, Option, Some, None, IfSome, inl, inr, codes, bytes_eq, if◌then◌else◌, refl, sym, ap, ◌∙◌}
+use Rattle.std.proofs.Common.{◌≡◌, ℕ, Bool, true, false, cond, ◌||◌, List, [], ◌∷◌, ◌++◌, filter, map, Option, Some, None, IfSome, inl, inr, codes, bytes_eq, if◌then◌else◌, refl, sym, ap, ◌∙◌, ◌⊎◌}
 use Rattle.std.specs.List.{AllByRecursion, list_any}
 use Rattle.std.proofs.lemmas.Bool.{cases_Bool, false≢true}
+use Rattle.std.proofs.lemmas.Option.{same_Some}
+use Rattle.std.proofs.Math.Bool.{or-true}
+use Rattle.std.specs.Cmp.Lexicographic.{nat_list_eq_equiv}
 use Rattle.json_text.specs.declared.text.Member.{Member}
 use Rattle.json_text.proofs.CallerLemmas.{bytes_eq-true, bytes_eq-same, bytes_eq-apart}
 use Rattle.elem.specs.declared.kind.Kind.{Kind}
@@ -19,6 +22,7 @@ use Rattle.delta.specs.declared.header.Header.TheVariants as headers
 use Rattle.delta.specs.Applied.{IsApplied, scalar_after, groups_after, bound_after}
 use Rattle.delta.specs.Delta.{Delta}
 use Rattle.elem.specs.Listings.{same_listing_entry-exact, same_listing_entry-same, same_listing_entry}
+use Rattle.elem.proofs.CallerLemmas.{each-list_any, list_any-each}
 use Rattle.delta.specs.Facts.{name_of}
 use Rattle.delta.specs.Headers.{own_header, header_named, scalar_text, value_named, scalar_at, scalar_of}
 use Rattle.json_text.specs.FirstOccurrences.{first_occurrences}
@@ -29,16 +33,11 @@ use Rattle.delta.proofs.HeaderLaws.{header_name, named, own-named}
 use Rattle.delta.proofs.Injective.{text-same, truth-same, binding-same}
 use Rattle.delta.proofs.JoinLaws.{are_same-exact, are_same-same}
 use Rattle.delta.proofs.Placing.{same_items}
-use Rattle.delta.proofs.RestLaws.{risen, same_values, each-list_any, list_any-each}
+use Rattle.delta.proofs.RestLaws.{risen, same_values}
 use Rattle.delta.proofs.ToldLaws.{not-named}
+use Rattle.delta.proofs.ChangeLaws.{name-inverted}
 
 -- ---- inverting
-bytes_eq-turned : (a b : List ℕ) → bytes_eq a b ≡ bytes_eq b a
-bytes_eq-turned a b =
-    elim (cases_Bool (bytes_eq a b)) [
-      | inl t ↦ t ∙ sym (ap (bytes_eq b) (bytes_eq-true a b t) ∙ bytes_eq-same b)
-      | inr f ↦ f ∙ sym (bytes_eq-apart b a (λ e. false≢true (sym f ∙ ap (bytes_eq a) e ∙ bytes_eq-same a)))
-    ]
 
 inverted-twice : (c : Change) → inverted (inverted c) ≡ c
 inverted-twice (Scalar name before after) = refl
@@ -57,16 +56,11 @@ pub turned : Option Change → Option Change
 turned None = None
 turned (Some c) = Some (inverted c)
 
-name-kept : (c : Change) → name_of (inverted c) ≡ name_of c
-name-kept (Scalar name before after) = refl
-name-kept (Groups before after) = refl
-name-kept (Bound before after) = refl
-
 pub change-inverted : (cs : List Change) (n : List ℕ) → change_of (map inverted cs) n ≡ turned (change_of cs n)
 unfolding turned
 change-inverted [] n = refl
 change-inverted (c ∷ cs) n =
-    ap (λ m. cond (bytes_eq n m) (Some (inverted c)) (change_of (map inverted cs) n)) (name-kept c)
+    ap (λ m. cond (bytes_eq n m) (Some (inverted c)) (change_of (map inverted cs) n)) (name-inverted c)
     ∙ (elim (bytes_eq n (name_of c)) as (λ b. cond b (Some (inverted c)) (change_of (map inverted cs) n)
     ≡ turned (cond b (Some c) (change_of cs n))) [
       | true ↦ refl
@@ -77,7 +71,7 @@ scalars_same-turned : (a b : Option (List ℕ)) → scalars_same a b ≡ scalars
 scalars_same-turned None None = refl
 scalars_same-turned None (Some b) = refl
 scalars_same-turned (Some a) None = refl
-scalars_same-turned (Some a) (Some b) = bytes_eq-turned a b
+scalars_same-turned (Some a) (Some b) = nat_list_eq_equiv.symm a b
 
 lists_same-turned : {T : Type 0} (same : T → T → Bool) → ((a b : T) → same a b ≡ true → a ≡ b)
     → ((a : T) → same a a ≡ true) → (a b : List T) → are_same same a b ≡ are_same same b a
@@ -143,8 +137,6 @@ part-once p q before after first second =
     ]
 
 -- ---- the scalars tell an element of an id and a kind, with its lists
-some-same : {X : Type 0} (a b : X) → Some a ≡ Some b → a ≡ b
-some-same a b e = cc
 
 own-is : (kind : Kind) (n : List ℕ) (h : Header) → own_header kind n ≡ Some h
     → list_any (bytes_eq n) (own_names kind) ≡ true
@@ -154,7 +146,7 @@ own-is Text n h e = ap (λ m. list_any (bytes_eq m) (own_names Text)) (own-named
     here h e = elim (bytes_eq n (codes "containerId")) as (λ b. (if b then Some headers.Container else None) ≡ Some h
         → list_any (bytes_eq (header_name h)) (own_names Text) ≡ true) [
           | true ↦ λ e. ap (λ k. list_any (bytes_eq (header_name k)) (own_names Text))
-              (sym (some-same headers.Container h e))
+              (sym (same_Some headers.Container h e))
           | false ↦ λ e. absurd (cc)
         ] e
 own-is Image n h e = ap (λ m. list_any (bytes_eq m) (own_names Image)) (own-named Image n h e) ∙ here h e
@@ -163,7 +155,7 @@ own-is Image n h e = ap (λ m. list_any (bytes_eq m) (own_names Image)) (own-nam
     here h e = elim (bytes_eq n (codes "fileId")) as (λ b. (if b then Some headers.File else None) ≡ Some h
         → list_any (bytes_eq (header_name h)) (own_names Image) ≡ true) [
           | true ↦ λ e. ap (λ k. list_any (bytes_eq (header_name k)) (own_names Image))
-              (sym (some-same headers.File h e))
+              (sym (same_Some headers.File h e))
           | false ↦ λ e. absurd (cc)
         ] e
 own-is Arrow n h e = ap (λ m. list_any (bytes_eq m) (own_names Arrow)) (own-named Arrow n h e) ∙ here h e
@@ -174,12 +166,12 @@ own-is Arrow n h e = ap (λ m. list_any (bytes_eq m) (own_names Arrow)) (own-nam
         else (if bytes_eq n (codes "endBinding") then Some headers.EndBinding
         else None)) ≡ Some h → list_any (bytes_eq (header_name h)) (own_names Arrow) ≡ true) [
           | true ↦ λ e. ap (λ k. list_any (bytes_eq (header_name k)) (own_names Arrow))
-              (sym (some-same headers.StartBinding h e))
+              (sym (same_Some headers.StartBinding h e))
           | false ↦ elim (bytes_eq n (codes "endBinding")) as (λ b. (if b then Some headers.EndBinding else None)
               ≡ Some h
               → list_any (bytes_eq (header_name h)) (own_names Arrow) ≡ true) [
                 | true ↦ λ e. ap (λ k. list_any (bytes_eq (header_name k)) (own_names Arrow))
-                    (sym (some-same headers.EndBinding h e))
+                    (sym (same_Some headers.EndBinding h e))
                 | false ↦ λ e. absurd (cc)
               ]
         ] e
@@ -194,10 +186,6 @@ own-is Iframe n h e = absurd (cc)
 own-is Embeddable n h e = absurd (cc)
 own-is (Other name) n h e = absurd (cc)
 
-or_true : (b : Bool) → (b || true) ≡ true
-or_true true = refl
-or_true false = refl
-
 header-is : (kind : Kind) (n : List ℕ) (h : Header) → header_named kind n ≡ Some h → is_header kind n ≡ true
 header-is kind n h e =
     elim (cases_Bool (bytes_eq n (codes "isDeleted"))) [
@@ -207,7 +195,7 @@ header-is kind n h e =
         | inr g ↦ elim (cases_Bool (bytes_eq n (codes "frameId"))) [
           | inl t ↦ ap (is_header kind) (bytes_eq-true n (codes "frameId") t)
           | inr k ↦ ap (λ b. list_any (bytes_eq n) header_names || b) (own-is kind n h (rw (f, g, k) at e))
-              ∙ or_true (list_any (bytes_eq n) header_names)
+              ∙ or-true (list_any (bytes_eq n) header_names)
         ]
       ]
     ]
@@ -233,12 +221,15 @@ header-apart n headers.StartBinding l e = false≢true (sym (ap is_list e) ∙ l
 header-apart n headers.EndBinding l e = false≢true (sym (ap is_list e) ∙ l)
 header-apart n headers.File l e = false≢true (sym (ap is_list e) ∙ l)
 
-list-header : (kind : Kind) (n : List ℕ) → is_list n ≡ true → is_header kind n ≡ true
-list-header kind n l = elim (cases_Bool (bytes_eq n (codes "groupIds"))) [
-  | inl t ↦ ap (is_header kind) (bytes_eq-true n (codes "groupIds") t)
-  | inr f ↦ ap (is_header kind) (bytes_eq-true n (codes "boundElements")
-      (sym (ap (λ b. b || bytes_eq n (codes "boundElements")) f) ∙ l))
+which-list : (n : List ℕ) → is_list n ≡ true → (n ≡ codes "groupIds") ⊎ (n ≡ codes "boundElements")
+which-list n l = elim (cases_Bool (bytes_eq n (codes "groupIds"))) [
+  | inl t ↦ inl (bytes_eq-true n (codes "groupIds") t)
+  | inr f ↦ inr (bytes_eq-true n (codes "boundElements") (sym (ap (λ b. b || bytes_eq n (codes "boundElements")) f)
+      ∙ l))
 ]
+
+list-header : (kind : Kind) (n : List ℕ) → is_list n ≡ true → is_header kind n ≡ true
+list-header kind n l = elim (which-list n l) [ inl e ↦ ap (is_header kind) e | inr e ↦ ap (is_header kind) e ]
 
 -- a list is no scalar
 list-scalar : (e : ElementValue) (n : List ℕ) → IsElement e → is_list n ≡ true → scalar_of e n ≡ None
@@ -253,7 +244,7 @@ module _ (a b : ElementValue) (is : IsElement a) (is' : IsElement b) (kind : a.k
   at-kind : (k : Kind) (n : List ℕ) (h : Header) → a.kind ≡ k → header_named k n ≡ Some h
       → scalar_text a h ≡ scalar_text b h
   at-kind k n h e own =
-      some-same _ _ (sym (ap (scalar_at a n) (ap (λ k. header_named k n) e ∙ own)) ∙ scalars n
+      same_Some _ _ (sym (ap (scalar_at a n) (ap (λ k. header_named k n) e ∙ own)) ∙ scalars n
       ∙ ap (scalar_at b n) (ap (λ k. header_named k n) (sym kind ∙ e) ∙ own))
 
   texts-same : (k : Kind) (n : List ℕ) (h : Header) (x y : Option (List ℕ)) → header_named k n ≡ Some h
@@ -357,7 +348,18 @@ bound-undone b a now = elim (are_same same_listing_entry b a) as
     (λ same. bound_after (turned (if same then None else Some (Bound b a))) now
     ≡ (if same then now else joined same_listing_entry a b now)) [ true ↦ refl | false ↦ refl ]
 
-undone_scalar-now : (b a : Option (List ℕ)) → undone_scalar b a a ≡ b
+-- a list is no scalar, and stays none
+groups-no_scalar : (b a : List (List ℕ)) (now : Option (List ℕ)) → scalar_after (turned (groups_change b a)) now ≡ now
+unfolding turned
+groups-no_scalar b a now = elim (are_same bytes_eq b a) as
+    (λ same. scalar_after (turned (if same then None else Some (Groups b a))) now ≡ now) [ true ↦ refl | false ↦ refl ]
+
+bound-no_scalar : (b a : List BoundRef) (now : Option (List ℕ)) → scalar_after (turned (bound_change b a)) now ≡ now
+unfolding turned
+bound-no_scalar b a now = elim (are_same same_listing_entry b a) as
+    (λ same. scalar_after (turned (if same then None else Some (Bound b a))) now ≡ now) [ true ↦ refl | false ↦ refl ]
+
+pub undone_scalar-now : (b a : Option (List ℕ)) → undone_scalar b a a ≡ b
 undone_scalar-now b a = elim (cases_Bool (scalars_same b a)) [
   | inl t ↦ ap (λ same. if same then a else b) t ∙ sym (scalars-exact b a t)
   | inr f ↦ ap (λ same. if same then a else b) f
@@ -375,7 +377,7 @@ module _ {T : Type 0} (same : T → T → Bool) (exact : (a b : T) → same a b 
     | inr f ↦ ap (λ s. if s then b else joined same b a b) f ∙ joined-now b a
   ]
 
-  undone_list-now : (b a : List T) → undone_list same b a a ≡ b
+  pub undone_list-now : (b a : List T) → undone_list same b a a ≡ b
   undone_list-now b a = elim (cases_Bool (are_same same b a)) [
     | inl t ↦ ap (λ s. if s then a else joined same a b a) t ∙ sym (are_same-exact same exact b a t)
     | inr f ↦ ap (λ s. if s then a else joined same a b a) f ∙ joined-now a b
@@ -396,6 +398,30 @@ bound-forward b a =
 -- ---- the laws
 module _ (part : Delta) (before after : ElementValue) (is : IsElement before) (is' : IsElement after)
     (stands : PartStandsFor part before after) where
+  groups-inverted : change_of (map inverted part.changes) (codes "groupIds")
+      ≡ turned (groups_change before.groups after.groups)
+  groups-inverted = change-inverted part.changes (codes "groupIds") ∙ ap turned stands.groups
+
+  bound-inverted : change_of (map inverted part.changes) (codes "boundElements")
+      ≡ turned (bound_change before.bound after.bound)
+  bound-inverted = change-inverted part.changes (codes "boundElements") ∙ ap turned stands.bound
+
+  scalar-inverted : (n : List ℕ) (now : Option (List ℕ)) → is_list n ≡ false
+      → scalar_after (change_of (map inverted part.changes) n) now
+      ≡ undone_scalar (scalar_of before n) (scalar_of after n) now
+  scalar-inverted n now f =
+      ap (λ o. scalar_after o now) (change-inverted part.changes n ∙ ap turned (stands.scalars n f))
+      ∙ scalar-undone n (scalar_of before n) (scalar_of after n) now
+
+  list-stays : (n : List ℕ) (now : Option (List ℕ)) → is_list n ≡ true
+      → scalar_after (change_of (map inverted part.changes) n) now ≡ now
+  list-stays n now l = elim (which-list n l) [
+    | inl g ↦ ap (λ m. scalar_after (change_of (map inverted part.changes) m) now) g
+        ∙ ap (λ o. scalar_after o now) groups-inverted ∙ groups-no_scalar before.groups after.groups now
+    | inr b ↦ ap (λ m. scalar_after (change_of (map inverted part.changes) m) now) b
+        ∙ ap (λ o. scalar_after o now) bound-inverted ∙ bound-no_scalar before.bound after.bound now
+  ]
+
   pub undone-from : (now result : ElementValue) → IsElement now → IsElement result
       → IsApplied (inverse part) now result
       → IsUndone before after now result
@@ -410,19 +436,35 @@ module _ (part : Delta) (before after : ElementValue) (is : IsElement before) (i
                 ∙ sym (ap (λ o. undone_scalar o (scalar_of after n) (scalar_of now n)) (list-scalar before n is t)
                 ∙ ap (λ o. undone_scalar None o (scalar_of now n)) (list-scalar after n is' t)
                 ∙ list-scalar now n isnow t)
-            | inr f ↦
-                changed.scalars n ∙ ap (λ o. scalar_after o (scalar_of now n)) (change-inverted part.changes n
-                ∙ ap turned (stands.scalars n f))
-                ∙ scalar-undone n (scalar_of before n) (scalar_of after n) (scalar_of now n)
+            | inr f ↦ changed.scalars n ∙ scalar-inverted n (scalar_of now n) f
           ];
-          groups =
-              changed.groups ∙ ap (λ o. groups_after o now.groups) (change-inverted part.changes (codes "groupIds")
-              ∙ ap turned stands.groups) ∙ groups-undone before.groups after.groups now.groups;
-          bound = changed.bound ∙ ap (λ o. bound_after o now.bound)
-              (change-inverted part.changes (codes "boundElements") ∙ ap turned stands.bound)
+          groups = changed.groups ∙ ap (λ o. groups_after o now.groups) groups-inverted
+              ∙ groups-undone before.groups after.groups now.groups;
+          bound = changed.bound ∙ ap (λ o. bound_after o now.bound) bound-inverted
               ∙ bound-undone before.bound after.bound now.bound;
         };
     other = λ kind. applied.other (λ e. kind (sym stands.kind ∙ e));
+  }
+
+  -- an undone element is what the inverse of the part makes
+  pub applied-undone : (now result : ElementValue) → IsElement now → IsElement result → IsUndone before after now result
+      → IsApplied (inverse part) now result
+  applied-undone now result isnow isresult is = record {
+    changed = λ kind.
+        let undoes = is.undone (sym stands.kind ∙ kind) in
+        record {
+          stamp = undoes.stamp;
+          scalars = λ n. elim (cases_Bool (is_list n)) [
+            | inl t ↦ list-scalar result n isresult t
+                ∙ sym (list-stays n (scalar_of now n) t ∙ list-scalar now n isnow t)
+            | inr f ↦ undoes.scalars n ∙ sym (scalar-inverted n (scalar_of now n) f)
+          ];
+          groups = undoes.groups ∙ sym (ap (λ o. groups_after o now.groups) groups-inverted
+              ∙ groups-undone before.groups after.groups now.groups);
+          bound = undoes.bound ∙ sym (ap (λ o. bound_after o now.bound) bound-inverted
+              ∙ bound-undone before.bound after.bound now.bound);
+        };
+    other = λ kind. is.other (λ e. kind (stands.kind ∙ e));
   }
 
   pub applied-forward : (result : ElementValue) → IsElement result → before.id ≡ after.id → before.kind ≡ after.kind

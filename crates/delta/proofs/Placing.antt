@@ -1,28 +1,19 @@
 -- Items in the order of their ids: where an id belongs, what one more makes of them, and that they are told by their
 -- ids.
-use Rattle.std.proofs.Common.{◌≡◌, ℕ, zero, suc, ◌+◌, ◌<◌, ◌≤◌, Bool, true, false, cond, List, [], ◌∷◌, map, length, get_or, take, drop, set, insert, Option, Some, None, All, slice_get, if◌then◌else◌, bytes_eq, Contains, inl, inr, refl, sym, ap, ◌∙◌, subst, arith}
+use Rattle.std.proofs.Common.{◌≡◌, ℕ, zero, suc, ◌<◌, Bool, true, false, cond, List, [], ◌∷◌, map, length, get_or, take, drop, set, insert, Option, Some, None, All, slice_get, if◌then◌else◌, bytes_eq, Contains, inl, inr, refl, sym, ap, ◌∙◌, subst, arith}
 use Rattle.std.specs.Option.{option_map_or}
 use Rattle.std.specs.List.{AllByRecursion}
 use Rattle.std.specs.List.Sorted.{IsPartitionedBy}
 use Rattle.std.proofs.lemmas.Bool.{cases_Bool, false≢true, and_parts, and_from}
-use Rattle.json_text.proofs.CallerLemmas.{bytes_eq-true, bytes_eq-same, bytes_eq-apart}
+use Rattle.std.proofs.lemmas.Option.{none-some, same_Some}
+use Rattle.json_text.proofs.CallerLemmas.{bytes_eq-true, bytes_eq-same, bytes_eq-flip}
 use Rattle.frac_keys.specs.Keys.{bytes_less}
 use Rattle.frac_keys.specs.Rising.{ends_rise, rise_between, are_rising}
-use Rattle.elem.proofs.CallerLemmas.{bytes_less-trans, bytes_less-same, bytes_less-asym, bytes_less-turned}
+use Rattle.frac_keys.proofs.CallerLemmas.{bytes_less-trans, bytes_less-asym, bytes_less-turned, bytes_eq-less}
 use Rattle.delta.specs.Placed.{item_of, with_item}
 
-none-some : {X : Type 0} (x : X) → None ≡ Some x → ⊥
-none-some x e = cc
-
-some-same : {X : Type 0} (x y : X) → Some x ≡ Some y → x ≡ y
-some-same x y e = cc
-
--- a lesser id is another one
-less-apart : (a b : List ℕ) → bytes_less a b ≡ true → bytes_eq a b ≡ false
-less-apart a b l = bytes_eq-apart a b (λ e. false≢true (sym (bytes_less-same a) ∙ ap (bytes_less a) e ∙ l))
-
 more-apart : (a b : List ℕ) → bytes_less b a ≡ true → bytes_eq a b ≡ false
-more-apart a b l = bytes_eq-apart a b (λ e. false≢true (sym (bytes_less-same a) ∙ ap (λ k. bytes_less k a) e ∙ l))
+more-apart a b l = bytes_eq-flip b a (bytes_eq-less b a l)
 
 module _ {X : Type 0} (id_of : X → List ℕ) where
   -- what stands behind an end rises from any lesser one
@@ -40,7 +31,7 @@ module _ {X : Type 0} (id_of : X → List ℕ) where
   none-behind k [] h = refl
   none-behind k (x ∷ xs) h =
       let parts = and_parts (bytes_less k (id_of x)) (rise_between (Some (id_of x)) None (map id_of xs)) h in
-      ap (λ b. cond b (Some x) (item_of id_of xs k)) (less-apart k (id_of x) parts.0)
+      ap (λ b. cond b (Some x) (item_of id_of xs k)) (bytes_eq-less k (id_of x) parts.0)
       ∙ none-behind k xs (lower k (id_of x) xs parts.0 parts.1)
 
   rising-tail : (x : X) (xs : List X) → rise_between (Some (id_of x)) None (map id_of xs) ≡ true
@@ -62,7 +53,7 @@ module _ {X : Type 0} (id_of : X → List ℕ) where
             ap (λ o. cond (bytes_eq id (id_of y)) (Some y) o) (put-found (Some (id_of y)) x ys id parts.1)
             ∙ swapped y ys id (bytes_eq id (id_of y)) (bytes_eq id (id_of x))
             (λ t. ap (λ k. bytes_eq k (id_of x)) (bytes_eq-true id (id_of y) t)
-            ∙ less-apart (id_of y) (id_of x) less)
+            ∙ bytes_eq-less (id_of y) (id_of x) less)
         | false ↦ λ more.
             elim (bytes_eq (id_of x) (id_of y)) as (λ b. bytes_eq (id_of x) (id_of y) ≡ b
             → item_of id_of (if b then x ∷ ys else x ∷ y ∷ ys) id
@@ -217,7 +208,7 @@ module _ {X : Type 0} (id_of : X → List ℕ) where
       → item_of id_of (x ∷ xs) (id_of y) ≡ Some y → x ≡ y
   heads-same x y xs ys h k c d =
       elim (cases_Bool (bytes_eq (id_of x) (id_of y))) [
-        | inl t ↦ some-same x y (sym c ∙ ap (λ b. cond b (Some y) (item_of id_of ys (id_of x))) t)
+        | inl t ↦ same_Some x y (sym c ∙ ap (λ b. cond b (Some y) (item_of id_of ys (id_of x))) t)
         | inr f ↦
             let low = found-behind (id_of y) ys (id_of x) x k
             (sym (ap (λ b. cond b (Some y) (item_of id_of ys (id_of x))) f) ∙ c) in
@@ -285,7 +276,7 @@ module _ {X : Type 0} (id_of : X → List ℕ) where
   item-found (y ∷ ys) id x found =
       elim (cases_Bool (bytes_eq id (id_of y))) [
         | inl t ↦
-            let same = some-same y x (sym (ap (λ b. cond b (Some y) (item_of id_of ys id)) t) ∙ found) in
+            let same = same_Some y x (sym (ap (λ b. cond b (Some y) (item_of id_of ys id)) t) ∙ found) in
             ((0, omega arith, same), bytes_eq-true id (id_of y) t ∙ ap id_of same)
         | inr f ↦
             let later = item-found ys id x (sym (ap (λ b. cond b (Some y) (item_of id_of ys id)) f) ∙ found) in

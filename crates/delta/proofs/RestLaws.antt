@@ -1,5 +1,5 @@
 -- Members in the order of their names: where a name belongs, and what a change of one member makes of them.
-use Rattle.std.proofs.Common.{◌≡◌, ℕ, zero, suc, ◌+◌, ◌<◌, ◌≤◌, Bool, true, false, List, [], ◌∷◌, ◌++◌, ◌||◌, length, get_or, take, drop, Option, Some, None, All, slice_get, if◌then◌else◌, bytes_eq, inl, inr, refl, sym, ap, ◌∙◌, subst, length-take, length-drop, arith}
+use Rattle.std.proofs.Common.{◌≡◌, ℕ, zero, suc, ◌+◌, ◌<◌, ◌≤◌, Bool, true, false, List, [], ◌∷◌, ◌++◌, length, get_or, take, drop, Option, Some, None, All, slice_get, if◌then◌else◌, bytes_eq, inl, inr, refl, sym, ap, ◌∙◌, subst, length-take, length-drop, arith}
 use Rattle.std.specs.List.{AllByRecursion, IsDistinct, list_any}
 use Rattle.std.specs.Option.{option_map_or, option_and_then}
 use Rattle.std.specs.List.Sorted.{IsPartitionedBy, IsPartitionPoint}
@@ -9,11 +9,12 @@ use Rattle.json_text.specs.Members.{pairs}
 use Rattle.json_text.specs.Compact.{Member as Pair}
 use Rattle.json_text.specs.declared.text.Member.{Member}
 use Rattle.json_text.proofs.CallerLemmas.{bytes_eq-true, bytes_eq-same, bytes_eq-apart}
-use Rattle.scene_json.proofs.CallerLemmas.{names-pairs}
+use Rattle.scene_json.proofs.CallerLemmas.{names-pairs, pairs-each}
 use Rattle.frac_keys.specs.Keys.{bytes_less}
 use Rattle.frac_keys.specs.Rising.{are_rising}
+use Rattle.frac_keys.proofs.CallerLemmas.{bytes_less-trans, bytes_less_itself, bytes_less-asym, bytes_less-turned}
 use Rattle.elem.specs.Facts.{names}
-use Rattle.elem.proofs.CallerLemmas.{IsRising, IsRising-from, are_rising-from, AllByRecursion-weaker, bytes_less-trans, bytes_less-same, bytes_less-asym, bytes_less-turned}
+use Rattle.elem.proofs.CallerLemmas.{IsRising, IsRising-from, are_rising-from, AllByRecursion-weaker}
 use Rattle.elem.specs.Texts.{with_member, sorted_members}
 use Rattle.delta.specs.Headers.{value_named}
 use Rattle.delta.specs.Rest.{value_if, made, without_first, with_value}
@@ -83,7 +84,7 @@ none_below : (name : List ℕ) (ms : List Member) → AllByRecursion (λ (n : Pa
 none_below name [] above = refl
 none_below name (m ∷ ms) above =
     ap (λ b. if b then Some m.value else value_named name ms)
-    (bytes_eq-apart name m.name (λ e. false≢true (sym (bytes_less-same name) ∙ ap (bytes_less name) e ∙ above.0)))
+    (bytes_eq-apart name m.name (λ e. false≢true (sym (bytes_less_itself name) ∙ ap (bytes_less name) e ∙ above.0)))
     ∙ none_below name ms above.1
 
 -- ---- the member at the place where a name belongs
@@ -123,7 +124,7 @@ value-at name (m ∷ ms) zero rise before behind =
 value-at name (m ∷ ms) (suc i) rise before behind =
     value-at name ms i rise.1 (λ k d l. before (suc k) d (omega arith)) behind
     ∙ sym (ap (λ b. if b then Some m.value else value_named name ms)
-    (bytes_eq-apart name m.name (λ e. false≢true (sym (bytes_less-same name)
+    (bytes_eq-apart name m.name (λ e. false≢true (sym (bytes_less_itself name)
     ∙ sym (ap (λ n. bytes_less n name) (sym e)) ∙ before 0 m (omega arith)))))
 
 -- ---- what a change of one member makes of all
@@ -145,11 +146,6 @@ each-with_value P name value (m ∷ ms) new all =
         → AllByRecursion P (made name value ++ xs)
     joined None new xs h = h
     joined (Some v) new xs h = (new.0, h)
-
-pairs-each : (P : Pair → Type 0) (ms : List Member) → AllByRecursion (λ (m : Member). P (m.name, m.value)) ms
-    → AllByRecursion P (pairs ms)
-pairs-each P [] h = tt
-pairs-each P (m ∷ ms) h = (h.0, pairs-each P ms h.1)
 
 each-pairs : (P : Pair → Type 0) (ms : List Member) → AllByRecursion P (pairs ms)
     → AllByRecursion (λ (m : Member). P (m.name, m.value)) ms
@@ -221,7 +217,7 @@ named-with_value n name value (m ∷ ms) rise =
       | true ↦ λ less.
           ap (λ v. if bytes_eq n m.name then Some m.value else v) (named-with_value n name value ms rise.1)
           ∙ swapped (bytes_eq n m.name) (bytes_eq n name)
-          (λ t. bytes_eq-apart n name (λ e. false≢true (sym (bytes_less-same name)
+          (λ t. bytes_eq-apart n name (λ e. false≢true (sym (bytes_less_itself name)
           ∙ ap (λ k. bytes_less k name) (sym e ∙ bytes_eq-true n m.name t) ∙ less)))
       | false ↦ λ more.
           elim (bytes_eq name m.name) as (λ b. bytes_eq name m.name ≡ b
@@ -254,22 +250,12 @@ named-with_value n name value (m ∷ ms) rise =
     swapped false c h = refl
 
 -- ---- names
-pub list_any-each : (test : List ℕ → Bool) (ms : List Member) → AllByRecursion (λ (m : Member). test m.name ≡ false) ms
-    → list_any test (names ms) ≡ false
-list_any-each test [] h = refl
-list_any-each test (m ∷ ms) h = ap (λ b. b || list_any test (names ms)) h.0 ∙ list_any-each test ms h.1
-
-pub each-list_any : (test : List ℕ → Bool) (ms : List Member) → list_any test (names ms) ≡ false
-    → AllByRecursion (λ (m : Member). test m.name ≡ false) ms
-each-list_any test [] h = tt
-each-list_any test (m ∷ ms) h =
-    let parts = or_parts (test m.name) (list_any test (names ms)) h in (parts.0, each-list_any test ms parts.1)
 
 apart : (name : List ℕ) (ms : List Member) → AllByRecursion (λ (n : Pair). bytes_less name n.0 ≡ true) (pairs ms)
     → AllByRecursion (λ n. bytes_eq name n ≡ false) (names ms)
 apart name [] h = tt
 apart name (m ∷ ms) h = (
-  bytes_eq-apart name m.name (λ e. false≢true (sym (bytes_less-same name) ∙ ap (bytes_less name) e ∙ h.0)),
+  bytes_eq-apart name m.name (λ e. false≢true (sym (bytes_less_itself name) ∙ ap (bytes_less name) e ∙ h.0)),
   apart name ms h.1,
 )
 
@@ -311,7 +297,7 @@ sorted-with_value name value ms rise free =
 -- a member that was put can be taken away again
 pub with_value-back : (name value : List ℕ) (ms : List Member) → list_any (bytes_eq name) (names ms) ≡ false
     → with_value name None (with_value name (Some value) ms) ≡ ms
-with_value-back name value [] free = rw (bytes_less-same name, bytes_eq-same name) refl
+with_value-back name value [] free = rw (bytes_less_itself name, bytes_eq-same name) refl
 with_value-back name value (m ∷ ms) free =
     let parts = or_parts (bytes_eq name m.name) (list_any (bytes_eq name) (names ms)) free in
     let new : Member = record { name = name; value = value } in
@@ -325,7 +311,7 @@ with_value-back name value (m ∷ ms) free =
       | false ↦ λ more.
           ap (λ b. with_value name None (new ∷ (if b then ms else m ∷ ms))) parts.0
           ∙ ap (λ b. if b then new ∷ with_value name None (m ∷ ms) else without_first name (new ∷ m ∷ ms))
-          (bytes_less-same name)
+          (bytes_less_itself name)
           ∙ ap (λ b. if b then m ∷ ms else new ∷ m ∷ ms) (bytes_eq-same name)
     ] refl
 

@@ -1,27 +1,11 @@
 -- Lists whose ids rise, of whatever has an id.
-use Rattle.std.proofs.Common.{◌≡◌, ℕ, zero, suc, true, List, [], ◌∷◌, ◌++◌, map, Option, Some, None, Contains, refl, ap, subst, arith}
+use Rattle.std.proofs.Common.{◌≡◌, ℕ, zero, suc, true, List, [], ◌∷◌, ◌++◌, map, Option, Some, None, Contains, refl, subst, arith}
 use Rattle.std.proofs.lemmas.Bool.{and_parts, and_from}
 use Rattle.std.proofs.lemmas.List.{map-append}
 use Rattle.std.proofs.lemmas.List.Elements.{Contains-append_right}
 use Rattle.frac_keys.specs.Keys.{bytes_less}
 use Rattle.frac_keys.specs.Rising.{ends_rise, rise_between, are_rising}
-use Rattle.frac_keys.proofs.CallerLemmas.{rise_between-join}
-use Rattle.elem.proofs.CallerLemmas.{bytes_less-trans}
-
--- what a list with an image of each of its items has
-pub Contains-map : {X Y : Type 0} (f : X → Y) (xs : List X) (y : Y) → Contains (map f xs) y → (x : X) × Contains xs x
-    × (f x ≡ y)
-Contains-map f [] y c = absurd (omega (arith, c.1))
-Contains-map f (x ∷ xs) y (zero, l, e) = (x, (0, omega arith, refl), e)
-Contains-map f (x ∷ xs) y (suc k, l, e) =
-    let later = Contains-map f xs y (k, omega arith, e) in
-    (later.0, (suc later.1.0, omega (arith, later.1.1), later.1.2), later.2)
-
-pub Contains-to_map : {X Y : Type 0} (f : X → Y) (xs : List X) (x : X) → Contains xs x → Contains (map f xs) (f x)
-Contains-to_map f [] x c = absurd (omega (arith, c.1))
-Contains-to_map f (y ∷ ys) x (zero, l, e) = (zero, omega arith, ap f e)
-Contains-to_map f (y ∷ ys) x (suc k, l, e) =
-    let later = Contains-to_map f ys x (k, omega arith, e) in (suc later.0, omega (arith, later.1), later.2)
+use Rattle.frac_keys.proofs.CallerLemmas.{rise_between-join, bytes_less-trans}
 
 module _ {X : Type 0} (id_of : X → List ℕ) where
   -- ids that rise and are less than an end rise up to it

@@ -1,11 +1,9 @@
 -- Changes told of name by name.
-use Rattle.std.proofs.Common.{◌≡◌, ℕ, zero, suc, ◌<◌, length, take, get_or, arith, Bool, true, false, cond, ◌||◌, List, [], ◌∷◌, ◌++◌, find, Option, Some, None, IfSome, inl, inr, codes, bytes_eq, if◌then◌else◌, refl, sym, ap, ◌∙◌, subst}
-use Rattle.std.specs.Cmp.Lexicographic.{nat_list_eq_equiv}
-use Rattle.std.specs.List.{AllByRecursion, IsDistinct, list_any}
-use Rattle.std.specs.Option.{option_or}
+use Rattle.std.proofs.Common.{◌≡◌, ℕ, zero, suc, ◌<◌, length, take, get_or, arith, Bool, true, false, cond, ◌||◌, List, [], ◌∷◌, ◌++◌, Option, Some, None, IfSome, inl, inr, codes, bytes_eq, if◌then◌else◌, refl, sym, ap, ◌∙◌, subst}
+use Rattle.std.specs.List.{AllByRecursion, list_any}
 use Rattle.std.proofs.lemmas.Bool.{cases_Bool, false≢true, or_parts}
-use Rattle.std.proofs.lemmas.List.Folds.{find-append, list_any-append}
-use Rattle.std.proofs.lemmas.Map.Keys.{IsDistinct-push}
+use Rattle.std.proofs.lemmas.List.Folds.{list_any-append}
+use Rattle.std.proofs.Math.Bool.{or-true, or-false}
 use Rattle.json_text.specs.Value.{IsCompact}
 use Rattle.json_text.specs.declared.text.Member.{Member}
 use Rattle.json_text.proofs.CallerLemmas.{bytes_eq-true, bytes_eq-same}
@@ -17,7 +15,7 @@ use Rattle.delta.specs.declared.change.Change.{Change}
 use Rattle.delta.specs.declared.change.Change.TheVariants.{Scalar, Groups, Bound}
 use Rattle.delta.specs.declared.header.Header.{Header}
 use Rattle.delta.specs.declared.header.Header.TheVariants as headers
-use Rattle.delta.specs.Facts.{IsChange, IsScalar, name_of, change_names, other_names}
+use Rattle.delta.specs.Facts.{IsChange, IsScalar, name_of, other_names}
 use Rattle.delta.specs.Headers.{header_named, value_named, scalar_at, scalar_of}
 use Rattle.elem.specs.Listings.{same_listing_entry}
 use Rattle.delta.specs.Joined.{are_same}
@@ -29,14 +27,6 @@ use Rattle.delta.proofs.Placing.{item-put, rising-put, each-put}
 -- a change, if it is one, is of the member of this name in elements of the kind
 abbrev pub IsOf : ElementValue → List ℕ → Option Change → Type 0
 IsOf e name o = IfSome o (λ c. (name_of c ≡ name) × IsChange e.kind c)
-
-or_false : (b : Bool) → (b || false) ≡ b
-or_false true = refl
-or_false false = refl
-
-or_true : (b : Bool) → (b || true) ≡ true
-or_true true = refl
-or_true false = refl
 
 nothing : (b : Bool) (o : Option Change) → o ≡ None → (if b then o else None) ≡ None
 nothing true o e = e
@@ -53,7 +43,7 @@ module _ (before after : ElementValue) (known : List (List ℕ)) (cs : List Chan
   unfolding wanted
   others n f =
       ap (λ b. if b then change_between before after n else None)
-      (sym (or_false (list_any (bytes_eq n) known))
+      (sym (or-false (list_any (bytes_eq n) known))
       ∙ ap (λ b. list_any (bytes_eq n) known || b) (sym (ap (λ b. b || false) f))
       ∙ sym (list_any-append (bytes_eq n) known (name ∷ [])))
 
@@ -63,7 +53,7 @@ module _ (before after : ElementValue) (known : List (List ℕ)) (cs : List Chan
       ap (λ b. if b then change_between before after name else None)
       (list_any-append (bytes_eq name) known (name ∷ [])
       ∙ ap (λ b. list_any (bytes_eq name) known || (b || false)) (bytes_eq-same name)
-      ∙ or_true (list_any (bytes_eq name) known))
+      ∙ or-true (list_any (bytes_eq name) known))
 
   by-name : (new : List Change) → ((n : List ℕ) → bytes_eq n name ≡ false → change_of new n ≡ change_of cs n)
       → change_of new name ≡ change_between before after name → (n : List ℕ) → change_of new n ≡ wanted n

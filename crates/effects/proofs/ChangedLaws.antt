@@ -1,6 +1,6 @@
 -- What a command comes to, by what was found of it.
-use Rattle.std.proofs.Common.{◌≡◌, ℕ, Bool, true, false, ◌&&◌, ◌==◌, List, [], ◌∷◌, Option, Some, None, Result, Ok, Err, Contains, filter, find, map, length, bytes_eq, if◌then◌else◌, inl, inr, refl, sym, ap, ◌∙◌, subst}
-use Rattle.std.specs.List.{AllByRecursion, IsDistinct, cons_option, filter_map}
+use Rattle.std.proofs.Common.{◌≡◌, ℕ, Bool, true, ◌&&◌, ◌==◌, List, [], ◌∷◌, Option, Some, None, Result, Ok, Err, Contains, find, map, length, bytes_eq, if◌then◌else◌, inl, inr, refl, sym, ap, ◌∙◌, subst}
+use Rattle.std.specs.List.{IsDistinct, cons_option, filter_map}
 use Rattle.std.specs.Option.{option_map, option_or}
 use Rattle.std.proofs.lemmas.Bool.{cases_Bool}
 use Rattle.std.proofs.lemmas.Option.{cond_some, same_Some}
@@ -12,12 +12,14 @@ use Rattle.elem.specs.Stamp.{stamped}
 use Rattle.elem_store.specs.Updates.{ids_of}
 use Rattle.elem_store.proofs.CallerLemmas.{Contains-cons, Contains-head, find-None}
 use Rattle.index_repair.specs.Keyed.{keyed}
+use Rattle.index_repair.proofs.CallerLemmas.{keyed-distinct}
 use Rattle.copies.specs.Copies.{copies_of}
 use Rattle.copies.proofs.CallerLemmas.{copies-distinct}
 use Rattle.board_commands.specs.declared.command.Command.{Command}
 use Rattle.board_commands.specs.declared.command.Command.TheVariants as commands
 use Rattle.board_commands.specs.declared.command.Spot.{Spot}
 use Rattle.board_commands.specs.Limits.{IsWithinLimits}
+use Rattle.links.proofs.CallerLemmas.{distinct-among}
 use Rattle.effects.specs.declared.refusal.Refusal.{Refusal}
 use Rattle.effects.specs.declared.effect.Effect.{Effect}
 use Rattle.effects.specs.Changed.{is_changed, is_full, change_of, changes_of, created, created_at, with_created, outcome, outcome_from, outcome_unless, refusal_at}
@@ -139,35 +141,6 @@ module _ (stored shown : List ElementValue) (command : Command) (time nonce : �
       ∙ absent d.id stored from.0 (created-unknown stored shown time nonce command d free c) from.1)
 
 -- ---- the ids of new elements are distinct
-module _ (x : List ℕ) where
-  abbrev IsApart : List ElementValue → Type 0
-  IsApart es = AllByRecursion (λ id. bytes_eq x id ≡ false) (ids_of es)
-
-  keyed-apart : (es : List ElementValue) (keys : List (List ℕ)) → IsApart es → IsApart (keyed es keys)
-  keyed-apart [] keys apart = tt
-  keyed-apart (e ∷ es) [] apart = tt
-  keyed-apart (e ∷ es) (key ∷ keys) apart = (apart.0, keyed-apart es keys apart.1)
-
-  among-apart : (p : ElementValue → Bool) (es : List ElementValue) → IsApart es → IsApart (filter p es)
-  among-apart p [] apart = tt
-  among-apart p (e ∷ es) apart = elim (cases_Bool (p e)) [
-    | inl t ↦ rw t (apart.0, among-apart p es apart.1)
-    | inr f ↦ rw f (among-apart p es apart.1)
-  ]
-
-keyed-distinct : (es : List ElementValue) (keys : List (List ℕ)) → HaveDistinctIds es → HaveDistinctIds (keyed es keys)
-unfolding IsDistinct
-keyed-distinct [] keys distinct = tt
-keyed-distinct (e ∷ es) [] distinct = tt
-keyed-distinct (e ∷ es) (key ∷ keys) distinct = (keyed-apart e.id es keys distinct.0, keyed-distinct es keys distinct.1)
-
-among-distinct : (p : ElementValue → Bool) (es : List ElementValue) → HaveDistinctIds es → HaveDistinctIds (filter p es)
-unfolding IsDistinct
-among-distinct p [] distinct = tt
-among-distinct p (e ∷ es) distinct = elim (cases_Bool (p e)) [
-  | inl t ↦ rw t (among-apart e.id p es distinct.0, among-distinct p es distinct.1)
-  | inr f ↦ rw f (among-distinct p es distinct.1)
-]
 
 new-ids : (time nonce : ℕ) (es : List ElementValue) → ids_of (map (as_new time nonce) es) ≡ ids_of es
 new-ids time nonce [] = refl
@@ -186,7 +159,7 @@ pub duplicates-distinct : (shown : List ElementValue) (ids : List (List ℕ)) (p
     → HaveDistinctIds (copies_at shown (shown_among ids shown) prefix spot time nonce)
 duplicates-distinct shown ids prefix spot time nonce distinct =
     copies-at-distinct shown (shown_among ids shown) prefix spot time nonce
-    (among-distinct (λ (e : ElementValue). is_among ids e.id) shown distinct)
+    (distinct-among (λ (e : ElementValue). is_among ids e.id) shown distinct)
 
 pub created-distinct : (shown : List ElementValue) (command : Command) (time nonce : ℕ) → IsWithinLimits command
     → HaveDistinctIds shown → HaveDistinctIds (created shown command time nonce)

@@ -1,17 +1,16 @@
 -- The stored elements of some ids, in the order of these: what an effect changes of them is what it changes of all,
 -- where it leaves the others as they are.
-use Rattle.std.proofs.Common.{◌≡◌, ℕ, Bool, true, false, ◌&&◌, ◌||◌, List, [], ◌∷◌, Option, Some, None, Contains, filter, find, bytes_eq, is_lt, nat_cmp, if◌then◌else◌, inl, inr, refl, sym, ap, ◌∙◌, subst}
+use Rattle.std.proofs.Common.{◌≡◌, ℕ, Bool, true, false, ◌&&◌, ◌||◌, List, [], ◌∷◌, Option, Some, None, Contains, filter, find, bytes_eq, nat_cmp, if◌then◌else◌, inl, inr, refl, sym, ap, ◌∙◌, subst}
 use Rattle.std.specs.BTreeSet.{BTreeSet, contains}
 use Rattle.std.specs.Cmp.Lexicographic.{slice_cmp}
-use Rattle.std.specs.List.{AllByRecursion, cons_option, filter_map, list_any}
+use Rattle.std.specs.List.{cons_option, filter_map, list_any}
 use Rattle.std.specs.List.Sorted.{IsStrictlySortedBy}
 use Rattle.std.specs.Option.{option_and_then, option_map}
-use Rattle.std.specs.declared.cmp.Ordering.TheVariants.{Less}
 use Rattle.std.proofs.lemmas.Bool.{cases_Bool, and_from, and_parts}
 use Rattle.std.proofs.lemmas.Map.Text.{is_eq-slice_cmp}
 use Rattle.json_text.proofs.CallerLemmas.{bytes_eq-true}
-use Rattle.frac_keys.specs.Keys.{bytes_less}
 use Rattle.frac_keys.specs.Rising.{ends_rise, rise_between, are_rising}
+use Rattle.frac_keys.proofs.CallerLemmas.{sorted-rising}
 use Rattle.elem.specs.ElementValue.{ElementValue}
 use Rattle.elem.specs.Order.{unstamped}
 use Rattle.elem_store.specs.Updates.{element_of, ids_of}
@@ -31,26 +30,8 @@ pub contains-among : (set : BTreeSet (List ℕ)) (id : List ℕ)
     → contains (slice_cmp nat_cmp) set id ≡ is_among set.keys id
 contains-among set id = ap (λ (h : List ℕ → Bool). list_any h set.keys) (λ i k. is_eq-slice_cmp id k i)
 
-below-less : (key : List ℕ) (keys : List (List ℕ)) → AllByRecursion (λ y. slice_cmp nat_cmp key y ≡ Less) keys
-    → AllByRecursion (λ y. bytes_less key y ≡ true) keys
-below-less key [] all = tt
-below-less key (y ∷ keys) all = (ap is_lt all.0, below-less key keys all.1)
-
-keys-rise : (low : Option (List ℕ)) (keys : List (List ℕ))
-    → AllByRecursion (λ key. ends_rise low (Some key) ≡ true) keys → IsStrictlySortedBy (slice_cmp nat_cmp) keys
-    → rise_between low None keys ≡ true
-unfolding IsStrictlySortedBy
-keys-rise None [] above sorted = refl
-keys-rise (Some k) [] above sorted = refl
-keys-rise low (key ∷ keys) above sorted =
-    and_from _ _ above.0 (keys-rise (Some key) keys (below-less key keys sorted.0) sorted.1)
-
-free : (keys : List (List ℕ)) → AllByRecursion (λ (key : List ℕ). ends_rise None (Some key) ≡ true) keys
-free [] = tt
-free (key ∷ keys) = (refl, free keys)
-
 pub set-rises : (set : BTreeSet (List ℕ)) → IsStrictlySortedBy (slice_cmp nat_cmp) set.keys → are_rising set.keys ≡ true
-set-rises set sorted = keys-rise None set.keys (free set.keys) sorted
+set-rises set sorted = sorted-rising set.keys sorted
 
 -- ---- the elements of an id
 -- among those that pass by their ids

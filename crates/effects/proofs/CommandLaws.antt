@@ -9,7 +9,7 @@ use Rattle.json_text.proofs.CallerLemmas.{bytes_eq-same, bytes_eq-apart}
 use Rattle.json_text.specs.declared.text.Member.{Member}
 use Rattle.frac_keys.specs.Between.{key_between}
 use Rattle.frac_keys.specs.Rising.{ends_rise, are_rising, is_key_or_none}
-use Rattle.frac_keys.proofs.CallerLemmas.{key_between-law}
+use Rattle.frac_keys.proofs.CallerLemmas.{key_between-law, ends_rise-none}
 use Rattle.elem.specs.declared.parts.Binding.{Binding}
 use Rattle.elem.specs.declared.parts.BoundRef.{BoundRef}
 use Rattle.elem.specs.ElementValue.{ElementValue}
@@ -42,7 +42,7 @@ use Rattle.effects.proofs.KeepingLaws.{Self, with_end_of-keeps}
 use Rattle.effects.proofs.CreatedLaws.{distinct-one, some-or-none}
 use Rattle.effects.proofs.OutcomeLaws.{or-none, none-misfit, created-given, stored_after-given, stored_after-kept, after-live}
 use Rattle.effects.proofs.NamedLaws.{at-some, named-live, named-after, live-before}
-use Rattle.effects.proofs.PlacingLaws.{Rises, Rises-shown, Rises-lower, ends_rise-none}
+use Rattle.effects.proofs.PlacingLaws.{Rises, Rises-shown, Rises-lower}
 
 -- ---- bound arrows
 pub end-unstamped : (side : Side) (e : ElementValue) → end_at side (unstamped e) ≡ end_at side e

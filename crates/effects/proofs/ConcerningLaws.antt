@@ -10,7 +10,7 @@ use Rattle.std.proofs.lemmas.Map.Text.{is_eq-slice_cmp}
 use Rattle.std.proofs.lemmas.Bool.{cases_Bool, false≢true, or_cases, or_parts, or_left, or_right, and_left, and_parts, cond-false}
 use Rattle.std.proofs.lemmas.List.{take_more}
 use Rattle.std.proofs.lemmas.List.Folds.{list_any-append}
-use Rattle.json_text.proofs.CallerLemmas.{bytes_eq-true, bytes_eq-same}
+use Rattle.json_text.proofs.CallerLemmas.{bytes_eq-true, bytes_eq-same, bytes_eq-flip}
 use Rattle.frac_keys.specs.Rising.{are_rising}
 use Rattle.elem.specs.declared.parts.BoundRef.{BoundRef}
 use Rattle.elem.specs.declared.kind.Role.{Role}
@@ -53,9 +53,6 @@ Ids = BTreeSet (List ℕ)
 abbrev pub has : Ids → List ℕ → Bool
 has ids id = contains (slice_cmp nat_cmp) ids id
 
-flip : (a b : List ℕ) → bytes_eq a b ≡ false → bytes_eq b a ≡ false
-flip a b h = nat_list_eq_equiv.symm b a ∙ h
-
 -- what leaves the others of a set of which this holds leaves those of the result
 pub leaves-from : {E : Type 0} (r : Result Ids E) (P : Ids
     → Type 0) (given effect : Effect) (stored : List ElementValue) → given ≡ effect
@@ -93,12 +90,12 @@ module _ (stored : List ElementValue) (ids : Ids) where
   others-place keys id key are e c live out =
       let parts = or_parts (bytes_eq e.id id) (is_some (get (slice_cmp nat_cmp) keys e.id)) (sym (are e.id) ∙ out) in
       cond-false (bytes_eq id e.id) (record (settled_in keys e) { index = key }) (settled_in keys e)
-      (flip e.id id parts.0) ∙ settled-other keys e parts.1
+      (bytes_eq-flip e.id id parts.0) ∙ settled-other keys e parts.1
 
   pub others-set : (id member value : List ℕ) → ((other : List ℕ) → has ids other ≡ bytes_eq other id)
       → LeavesOthers (made_by (effects.Set id member value)) stored ids
   others-set id member value are e c live out =
-      cond-false (bytes_eq id e.id) (with_set_member member value e) e (flip e.id id (sym (are e.id) ∙ out))
+      cond-false (bytes_eq id e.id) (with_set_member member value e) e (bytes_eq-flip e.id id (sym (are e.id) ∙ out))
 
   pub others-link : (link : Link) → ((other : List ℕ) → has ids other
       ≡ (is_id other link.old || (is_id other (target_of link.binding) || bytes_eq other link.arrow)))
@@ -109,7 +106,7 @@ module _ (stored : List ElementValue) (ids : Ids) where
       let second = or_parts (is_id e.id (target_of link.binding)) (bytes_eq e.id link.arrow) first.1 in
       let ended : with_end_of link.arrow link.side link.binding e ≡ e =
       cond-false (bytes_eq link.arrow e.id && is_arrow e.kind) (with_end link.side link.binding e) e
-      (and_left (bytes_eq link.arrow e.id) (is_arrow e.kind) (flip e.id link.arrow second.1)) in
+      (and_left (bytes_eq link.arrow e.id) (is_arrow e.kind) (bytes_eq-flip e.id link.arrow second.1)) in
       ap (λ (d : ElementValue). unlisted link.old link.entry (listed (target_of link.binding) link.entry d)) ended
       ∙ ap (unlisted link.old link.entry)
       (cond-false (is_id e.id (target_of link.binding)) (record e { bound = with_listing_entry e.bound link.entry })
@@ -122,7 +119,7 @@ module _ (stored : List ElementValue) (ids : Ids) where
   others-unlabel text old entry are e c live out =
       let parts = or_parts (is_id e.id old) (bytes_eq e.id text) (sym (are e.id) ∙ out) in
       ap (unlisted old entry) (cond-false (bytes_eq text e.id) (record e { container = None }) e
-      (flip e.id text parts.1))
+      (bytes_eq-flip e.id text parts.1))
       ∙ cond-false (is_id e.id old) (record e { bound = without_listing_entry entry e.bound }) e parts.0
 
   module _ (set : Ids) (are : (id : List ℕ) → has ids id ≡ has set id) where
@@ -161,12 +158,12 @@ module _ (stored : List ElementValue) (ids : Ids) where
       let free : with_container_of label.text label.container e ≡ e =
       cond-false (bytes_eq label.text e.id && is_text e.kind) (record e { container = Some label.container })
       (if is_id label.container e.container then record e { container = None } else e)
-      (and_left (bytes_eq label.text e.id) (is_text e.kind) (flip e.id label.text second.1))
+      (and_left (bytes_eq label.text e.id) (is_text e.kind) (bytes_eq-flip e.id label.text second.1))
       ∙ cond-false (is_id label.container e.container) (record e { container = None }) e held.0 in
       ap (λ (d : ElementValue). unlisted label.old label.entry (with_text_of label.text label.container d)) free
       ∙ ap (unlisted label.old label.entry)
       (cond-false (bytes_eq label.container e.id) (record e { bound = with_text_alone label.text e.bound }) e
-      (flip e.id label.container second.0))
+      (bytes_eq-flip e.id label.container second.0))
       ∙ cond-false (is_id e.id label.old) (record e { bound = without_listing_entry label.entry e.bound }) e first.0
 
 -- ---- what is deleted
@@ -352,13 +349,6 @@ added-more X p xs i x old mid new within there before more =
     turned true false c = refl
     turned false true c = refl
     turned false false c = refl
-
--- those that are there and those that are left are all, where none is there, and where others are
-pub all-left : (there others : Bool) → (there || others) ≡ (others || there)
-all-left true true = refl
-all-left true false = refl
-all-left false true = refl
-all-left false false = refl
 
 -- the ids with keys are those of the map
 pub keyed-left : (new : Ids) (ids left : List (List ℕ)) (found : List ℕ → Bool) → new.keys ≡ [] → left ≡ ids

@@ -4,21 +4,22 @@ use Rattle.std.proofs.Common.{◌≡◌, ℕ, Bool, true, false, ◌⊎◌, List
 use Rattle.std.specs.Cmp.Lexicographic.{nat_list_eq_equiv}
 use Rattle.std.specs.List.{AllByRecursion, IsDistinct}
 use Rattle.std.specs.Option.{option_map}
-use Rattle.std.proofs.lemmas.Bool.{cases_Bool, false≢true, and_parts, and_from}
+use Rattle.std.proofs.lemmas.Bool.{cases_Bool, and_parts, and_from}
 use Rattle.std.proofs.lemmas.Option.{none-some}
-use Rattle.json_text.proofs.CallerLemmas.{bytes_eq-true}
+use Rattle.std.proofs.lemmas.Map.Views.{Contains-from_any}
+use Rattle.json_text.proofs.CallerLemmas.{bytes_eq-true, Contains-map, Contains-to_map, none-is}
 use Rattle.frac_keys.specs.Keys.{bytes_less}
 use Rattle.frac_keys.specs.Rising.{ends_rise, rise_between, are_rising}
+use Rattle.frac_keys.proofs.CallerLemmas.{bytes_less-turned}
 use Rattle.elem.specs.ElementValue.{ElementValue}
 use Rattle.elem.specs.Order.{has_id, HaveDistinctIds}
-use Rattle.elem.proofs.CallerLemmas.{bytes_less-turned}
 use Rattle.elem_store.specs.Updates.{element_of, ids_of}
 use Rattle.elem_store.proofs.CallerLemmas.{Contains-head, Contains-cons, Contains-cases, filter-Contains, find-None, is_some-find, list_any-false}
 use Rattle.index_repair.specs.Keyed.{keyed, with_index}
 use Rattle.view.specs.Shown.{is_live, with_element}
 use Rattle.copies.specs.Copies as copying
 use Rattle.copies.specs.Copies.{copies_of}
-use Rattle.copies.proofs.CallerLemmas.{Contains-map, copy-id, map-Contains, original}
+use Rattle.copies.proofs.CallerLemmas.{copy-id, original}
 use Rattle.board_commands.specs.declared.command.Command.{Command}
 use Rattle.board_commands.specs.declared.command.Command.TheVariants as commands
 use Rattle.board_commands.specs.declared.command.Spot.{Spot}
@@ -39,10 +40,6 @@ pub absent : (id : List ℕ) (elements : List ElementValue) (e : ElementValue) �
     → Contains elements e → has_id id e ≡ false
 absent id elements e none c =
     list_any-false (has_id id) elements e (sym (is_some-find (has_id id) elements) ∙ ap is_some none) c
-
-no-some : (o : Option ElementValue) → is_some o ≡ false → o ≡ None
-no-some None h = refl
-no-some (Some x) h = absurd (false≢true (sym h))
 
 -- ---- one more at the place of its id
 abbrev put : ElementValue → List ElementValue → List ElementValue
@@ -125,7 +122,7 @@ new-rises : (x : ElementValue) (es : List ElementValue) → are_rising (ids_of e
     → are_rising (ids_of (with_new x es)) ≡ true
 new-rises x es h = elim (cases_Bool (is_some (element_of es x.id))) [
   | inl there ↦ rw there h
-  | inr none ↦ rw none (put-rises None x es refl (no-some (element_of es x.id) none) h)
+  | inr none ↦ rw none (put-rises None x es refl (none-is (element_of es x.id) none) h)
 ]
 
 -- ---- several at the places of their ids
@@ -208,7 +205,7 @@ pub record IsCopyAt (list : List ElementValue) (prefix : List ℕ) (time nonce :
 pub copy-from : (shown list : List ElementValue) (prefix : List ℕ) (spot : Spot) (time nonce : ℕ) (e : ElementValue)
     → Contains (copies_at shown list prefix spot time nonce) e → IsCopyAt list prefix time nonce e
 copy-from shown list prefix spot time nonce e c =
-    let new = map-Contains (as_new time nonce) _ e c in
+    let new = Contains-map (as_new time nonce) _ e c in
     let placed = keyed-from (copies_of list prefix) _ new.0 new.1 in
     let from = original list prefix placed.0 placed.2 in
     record {
@@ -222,27 +219,20 @@ copy-from shown list prefix spot time nonce e c =
     }
 
 -- ---- no new element's id was stored
-unless : (b : Bool) (refusal : Refusal) → refusal_if b refusal ≡ None → b ≡ false
-unless true refusal h = absurd (none-some refusal (sym h))
-unless false refusal h = refl
+pub refusal_if-none : (b : Bool) (refusal : Refusal) → refusal_if b refusal ≡ None → b ≡ false
+refusal_if-none true refusal h = absurd (none-some refusal (sym h))
+refusal_if-none false refusal h = refl
 
 pub unmapped : {X Y : Type 0} (f : X → Y) (o : Option X) → option_map f o ≡ None → o ≡ None
 unmapped f None h = refl
 unmapped f (Some x) h = absurd (none-some (f x) (sym h))
-
-among-there : (ids : List (List ℕ)) (id : List ℕ) → is_among ids id ≡ true → Contains ids id
-among-there [] id h = absurd (false≢true h)
-among-there (other ∷ ids) id h = elim (cases_Bool (bytes_eq id other)) [
-  | inl same ↦ subst (Contains (other ∷ ids)) (sym (bytes_eq-true id other same)) (Contains-head other ids)
-  | inr differ ↦ Contains-cons other ids id (among-there ids id (rw differ at h))
-]
 
 module _ (stored shown : List ElementValue) (time nonce : ℕ) where
   free-under : (prefix : List ℕ) (ids : List (List ℕ)) (id : List ℕ) → first_stored stored prefix ids ≡ None
       → Contains ids id → element_of stored (prefix ++ id) ≡ None
   free-under prefix ids id free c =
       let test = (λ (id : List ℕ). is_some (element_of stored (prefix ++ id))) in
-      no-some (element_of stored (prefix ++ id))
+      none-is (element_of stored (prefix ++ id))
       (list_any-false test ids id (sym (is_some-find test ids)
       ∙ ap is_some (unmapped (λ (id : List ℕ). Exists (prefix ++ id)) (find test ids) free)) c)
 
@@ -257,20 +247,21 @@ module _ (stored shown : List ElementValue) (time nonce : ℕ) where
   created-unknown (commands.Create element spot) e free c =
       elim (Contains-cases (created_at shown element spot time nonce) [] e c) [
         | inl is ↦ ap (λ (d : ElementValue). element_of stored d.id) (sym is)
-            ∙ no-some (element_of stored element.id)
-            (unless (is_some (element_of stored element.id)) (Exists element.id)
+            ∙ none-is (element_of stored element.id)
+            (refusal_if-none (is_some (element_of stored element.id)) (Exists element.id)
             free)
         | inr none ↦ absurd (omega (arith, none.1))
       ]
   created-unknown (commands.Duplicate ids prefix spot) e free c =
       let copy = copy-from shown (shown_among ids shown) prefix spot time nonce e c in
       copied-unknown (shown_among ids shown) prefix ids e free copy
-      (among-there ids copy.old.id (filter-Contains (λ (d : ElementValue). is_among ids d.id) shown copy.old
+      (Contains-from_any bytes_eq-true copy.old.id ids (filter-Contains (λ (d : ElementValue). is_among ids d.id) shown
+      copy.old
       copy.among).1)
   created-unknown (commands.Paste elements prefix spot) e free c =
       let copy = copy-from shown elements prefix spot time nonce e c in
       copied-unknown elements prefix (ids_of elements) e free copy
-      (Contains-map (λ (d : ElementValue). d.id) elements copy.old copy.among)
+      (Contains-to_map (λ (d : ElementValue). d.id) elements copy.old copy.among)
   created-unknown command e free c = absurd (omega (arith, c.1))
 
   pub created-fresh : (command : Command) (e : ElementValue) → Contains (created shown command time nonce) e

@@ -1,8 +1,8 @@
 -- Elements of one id, kind and file differ outside the stamp exactly if they are told to.
-use Rattle.std.proofs.Common.{◌≡◌, Bool, true, false, not, ◌&&◌, Option, Some, None, bytes_eq, refl, sym, ap, ◌∙◌, subst}
+use Rattle.std.proofs.Common.{◌≡◌, Bool, true, false, Option, Some, None, bytes_eq, refl, sym, ap, ◌∙◌, subst}
 use Rattle.std.specs.Cmp.Lexicographic.{pointwise, pointwise_decides, bytes_decides}
 use Rattle.std.specs.Option.{option_eq}
-use Rattle.std.proofs.lemmas.Bool.{false≢true}
+use Rattle.std.proofs.lemmas.Bool.{false≢true, and_parts, and_from, not-false}
 use Rattle.json_text.specs.declared.text.Member.{Member}
 use Rattle.elem.specs.declared.kind.Role.{Role}
 use Rattle.elem.specs.declared.kind.Role.TheVariants.{Arrow, Text}
@@ -16,13 +16,6 @@ use Rattle.effects.specs.Differing.{differs, same_truth, same_member, same_bindi
 -- the test tells whether two are the same
 abbrev Decided : {X : Type 0} → (X → X → Bool) → Type 0
 Decided {X} E = (x y : X) → (E x y ≡ true → x ≡ y) × (x ≡ y → E x y ≡ true)
-
-both : (a b : Bool) → (a && b) ≡ true → (a ≡ true) × (b ≡ true)
-both true b h = (refl, h)
-both false b h = absurd (false≢true h)
-
-joined : (a b : Bool) → a ≡ true → b ≡ true → (a && b) ≡ true
-joined a b p q = rw (p, q) refl
 
 truth : Decided same_truth
 truth x y = (same x y, λ e. subst (λ z. same_truth x z ≡ true) e (own x))
@@ -67,12 +60,12 @@ entry : Decided same_listing_entry
 entry x y = (
   same,
   λ e. subst (λ (z : BoundRef). same_listing_entry x z ≡ true) e
-      (joined _ _ ((role x.role x.role).1 refl) ((bytes_decides x.id x.id).1 refl)),
+      (and_from _ _ ((role x.role x.role).1 refl) ((bytes_decides x.id x.id).1 refl)),
 )
   where
     same : same_listing_entry x y ≡ true → x ≡ y
     same h =
-        let parts = both (same_role x.role y.role) (bytes_eq x.id y.id) h in
+        let parts = and_parts (same_role x.role y.role) (bytes_eq x.id y.id) h in
         let r = (role x.role y.role).0 parts.0 in
         let n = (bytes_decides x.id y.id).0 parts.1 in
         λ i. record { id = n i; role = r i }
@@ -81,12 +74,12 @@ member : Decided same_member
 member x y = (
   same,
   λ e. subst (λ (z : Member). same_member x z ≡ true) e
-      (joined _ _ ((bytes_decides x.name x.name).1 refl) ((bytes_decides x.value x.value).1 refl)),
+      (and_from _ _ ((bytes_decides x.name x.name).1 refl) ((bytes_decides x.value x.value).1 refl)),
 )
   where
     same : same_member x y ≡ true → x ≡ y
     same h =
-        let parts = both (bytes_eq x.name y.name) (bytes_eq x.value y.value) h in
+        let parts = and_parts (bytes_eq x.name y.name) (bytes_eq x.value y.value) h in
         let n = (bytes_decides x.name y.name).0 parts.0 in
         let v = (bytes_decides x.value y.value).0 parts.1 in
         λ i. record { name = n i; value = v i }
@@ -95,33 +88,29 @@ binding : Decided same_binding
 binding x y = (
   same,
   λ e. subst (λ (z : Binding). same_binding x z ≡ true) e
-      (joined _ _ ((bytes_decides x.target x.target).1 refl) ((pointwise_decides member x.rest x.rest).1 refl)),
+      (and_from _ _ ((bytes_decides x.target x.target).1 refl) ((pointwise_decides member x.rest x.rest).1 refl)),
 )
   where
     same : same_binding x y ≡ true → x ≡ y
     same h =
-        let parts = both (bytes_eq x.target y.target) (pointwise same_member x.rest y.rest) h in
+        let parts = and_parts (bytes_eq x.target y.target) (pointwise same_member x.rest y.rest) h in
         let t = (bytes_decides x.target y.target).0 parts.0 in
         let r = (pointwise_decides member x.rest y.rest).0 parts.1 in
         λ i. record { target = t i; rest = r i }
-
-not-true : (b : Bool) → not b ≡ false → b ≡ true
-not-true true h = refl
-not-true false h = absurd (false≢true (sym h))
 
 -- where nothing differs the two are the same but for the stamp
 pub same-where-not : (a b : ElementValue) → a.id ≡ b.id → a.kind ≡ b.kind → a.file ≡ b.file → differs a b ≡ false
     → unstamped a ≡ unstamped b
 same-where-not a b id kind file h =
-    let deleted = both (same_truth a.deleted b.deleted) _ (not-true _ h) in
-    let index = both (option_eq bytes_eq a.index b.index) _ deleted.1 in
-    let groups = both (pointwise bytes_eq a.groups b.groups) _ index.1 in
-    let frame = both (option_eq bytes_eq a.frame b.frame) _ groups.1 in
-    let bound = both (pointwise same_listing_entry a.bound b.bound) _ frame.1 in
-    let container = both (option_eq bytes_eq a.container b.container) _ bound.1 in
-    let start = both (option_eq same_binding a.start_binding b.start_binding) _ container.1 in
+    let deleted = and_parts (same_truth a.deleted b.deleted) _ (not-false _ h) in
+    let index = and_parts (option_eq bytes_eq a.index b.index) _ deleted.1 in
+    let groups = and_parts (pointwise bytes_eq a.groups b.groups) _ index.1 in
+    let frame = and_parts (option_eq bytes_eq a.frame b.frame) _ groups.1 in
+    let bound = and_parts (pointwise same_listing_entry a.bound b.bound) _ frame.1 in
+    let container = and_parts (option_eq bytes_eq a.container b.container) _ bound.1 in
+    let start = and_parts (option_eq same_binding a.start_binding b.start_binding) _ container.1 in
     let end' =
-    both (option_eq same_binding a.end_binding b.end_binding) (pointwise same_member a.rest b.rest) start.1 in
+    and_parts (option_eq same_binding a.end_binding b.end_binding) (pointwise same_member a.rest b.rest) start.1 in
     let d = (truth a.deleted b.deleted).0 deleted.0 in
     let i' = (option bytes_eq bytes_decides a.index b.index).0 index.0 in
     let g = (pointwise_decides bytes_decides a.groups b.groups).0 groups.0 in

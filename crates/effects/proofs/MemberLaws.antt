@@ -7,9 +7,9 @@ use Rattle.json_text.proofs.CallerLemmas.{bytes_eq-same, bytes_eq-apart, bytes_e
 use Rattle.json_text.specs.declared.text.Member.{Member}
 use Rattle.frac_keys.specs.Keys.{bytes_less}
 use Rattle.frac_keys.specs.Rising.{are_rising}
+use Rattle.frac_keys.proofs.CallerLemmas.{bytes_less_itself}
 use Rattle.elem.specs.ElementValue.{ElementValue}
 use Rattle.elem.specs.Order.{unstamped}
-use Rattle.elem.proofs.CallerLemmas.{bytes_less-same}
 use Rattle.elem_store.specs.Updates.{ids_of}
 use Rattle.elem_store.proofs.CallerLemmas.{Contains-head}
 use Rattle.delta.specs.Headers.{value_named}
@@ -33,7 +33,8 @@ value-set name value (m ∷ ms) =
     ++ without_first name (m ∷ ms)) ≡ Some value) [
       | true ↦ λ less.
           cond-false (bytes_eq name m.name) (Some m.value) (value_named name (with_value name (Some value) ms))
-          (bytes_eq-apart name m.name (λ same. false≢true (sym (bytes_less-same name) ∙ ap (λ n. bytes_less n name) same
+          (bytes_eq-apart name m.name (λ same. false≢true (sym (bytes_less_itself name)
+          ∙ ap (λ n. bytes_less n name) same
           ∙ less)))
           ∙ value-set name value ms
       | false ↦ λ more. cond-true (bytes_eq name name) (Some value) (value_named name (without_first name (m ∷ ms)))

@@ -7,6 +7,7 @@ use Rattle.std.proofs.lemmas.Bool.{cases_Bool, false≢true, both_ways, and_part
 use Rattle.std.proofs.lemmas.Option.{none-some, same_Some, cond_some}
 use Rattle.frac_keys.specs.Keys.{bytes_less}
 use Rattle.frac_keys.specs.Rising.{ends_rise, rise_between, are_rising}
+use Rattle.frac_keys.proofs.CallerLemmas.{ends_rise-none, ends_rise-trans}
 use Rattle.elem.specs.ElementValue.{ElementValue}
 use Rattle.elem.specs.Order.{beats, unstamped, has_id, HaveDistinctIds}
 use Rattle.elem.specs.Stamp.{stamped}
@@ -24,7 +25,6 @@ use Rattle.effects.specs.Refusals.{refusal_of, existing, missing, misfit, guarde
 use Rattle.effects.proofs.CreatedLaws.{absent, created-cases, created-fresh, created-kept, created-rises, created-there, created-unknown, some-or-none}
 use Rattle.effects.proofs.DifferingLaws.{same-where-not, differs-not}
 use Rattle.effects.proofs.KeepingLaws.{Self, effect-keeps}
-use Rattle.effects.proofs.PlacingLaws.{ends_rise-none, ends_rise-trans}
 
 -- none of two where the first of them is none
 pub or-none : {X : Type 0} (o p : Option X) → option_or o p ≡ None → (o ≡ None) × (p ≡ None)

@@ -6,15 +6,15 @@ use Rattle.std.specs.List.{AllByRecursion, IsDistinct, find, list_any}
 use Rattle.std.specs.Map.{lookup}
 use Rattle.std.specs.Cmp.Lexicographic.{slice_cmp, nat_list_eq_equiv, texts_ties}
 use Rattle.std.specs.Option.{option_and_then, option_or, option_map, option_copied}
-use Rattle.std.proofs.lemmas.Bool.{and_right, cases_Bool, false≢true}
+use Rattle.std.proofs.lemmas.Bool.{and_right, cases_Bool, false≢true, and_parts}
 use Rattle.std.proofs.lemmas.Grind.{reverse_onto}
 use Rattle.std.proofs.lemmas.List.{reverse-reverse}
 use Rattle.std.proofs.lemmas.List.Elements.{filter-append}
 use Rattle.std.proofs.lemmas.Option.{none-some, same_Some}
 use Rattle.json_text.proofs.CallerLemmas.{bytes_eq-same, bytes_eq-true}
 use Rattle.frac_keys.specs.Rising.{ends_rise, rise_between}
+use Rattle.frac_keys.proofs.CallerLemmas.{ends_rise-none, ends_rise-trans}
 use Rattle.elem.specs.ElementValue.{ElementValue}
-use Rattle.elem.proofs.CallerLemmas.{bytes_less-trans}
 use Rattle.elem.specs.Order.{has_id, HaveDistinctIds}
 use Rattle.elem_store.specs.Updates.{element_of, ids_of}
 use Rattle.index_repair.specs.Keyed.{index_of, HaveRisingKeys}
@@ -29,10 +29,6 @@ Rises low [] = Unit {0}
 Rises low (e ∷ elements) =
     (key : List ℕ) × (e.index ≡ Some key) × (ends_rise low (Some key) ≡ true) × Rises (Some key) elements
 
-and-parts : (a b : Bool) → (a && b) ≡ true → (a ≡ true) × (b ≡ true)
-and-parts true b h = (refl, h)
-and-parts false b h = absurd (false≢true h)
-
 pub Rises-from : (low : Option (List ℕ)) (elements : List ElementValue) (keys : List (List ℕ))
     → map index_of elements ≡ map Some keys → rise_between low None keys ≡ true → Rises low elements
 Rises-from low [] keys same rise = tt
@@ -41,7 +37,7 @@ Rises-from low (e ∷ elements) [] same rise = absurd (no-cons (sym same))
     no-cons : {X : Type 0} {x : X} {xs : List X} → [] ≡ x ∷ xs → ⊥
     no-cons {X} e = subst (λ l. elim l as (λ _. Type 0) [ [] ↦ Unit {0} | x ∷ xs ↦ ⊥ ]) e tt
 Rises-from low (e ∷ elements) (key ∷ keys) same rise =
-    let parts = and-parts (ends_rise low (Some key)) (rise_between (Some key) None keys) rise in
+    let parts = and_parts (ends_rise low (Some key)) (rise_between (Some key) None keys) rise in
     (key, ap (head-or (index_of e)) same, parts.0, Rises-from (Some key) elements keys (ap tail same) parts.1)
   where
     head-or : Option (List ℕ) → List (Option (List ℕ)) → Option (List ℕ)
@@ -54,16 +50,6 @@ Rises-from low (e ∷ elements) (key ∷ keys) same rise =
 
 pub Rises-shown : (elements : List ElementValue) → HaveRisingKeys elements → Rises None elements
 Rises-shown elements h = Rises-from None elements h.keys h.each h.rise
-
-pub ends_rise-none : (low : Option (List ℕ)) → ends_rise low None ≡ true
-ends_rise-none None = refl
-ends_rise-none (Some low) = refl
-
-pub ends_rise-trans : (low : Option (List ℕ)) (key : List ℕ) (high : Option (List ℕ)) → ends_rise low (Some key) ≡ true
-    → ends_rise (Some key) high ≡ true → ends_rise low high ≡ true
-ends_rise-trans None key high a b = refl
-ends_rise-trans (Some low) key None a b = refl
-ends_rise-trans (Some low) key (Some high) a b = bytes_less-trans low key high a b
 
 pub Rises-lower : (low : Option (List ℕ)) (key : List ℕ) (elements : List ElementValue)
     → ends_rise low (Some key) ≡ true → Rises (Some key) elements → Rises low elements

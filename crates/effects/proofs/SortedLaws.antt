@@ -11,9 +11,10 @@ use Rattle.std.proofs.lemmas.List.Sorted.{Contains-permutation, IsPermutation-sy
 use Rattle.std.proofs.lemmas.Option.{none-some}
 use Rattle.elem.specs.ElementValue.{ElementValue}
 use Rattle.elem.specs.Order.{has_id, HaveDistinctIds}
-use Rattle.elem.proofs.CallerLemmas.{AllByRecursion-append, bytes_less-turned}
+use Rattle.elem.proofs.CallerLemmas.{AllByRecursion-append}
 use Rattle.frac_keys.specs.Keys.{bytes_less}
 use Rattle.frac_keys.specs.Rising.{are_rising, rise_between}
+use Rattle.frac_keys.proofs.CallerLemmas.{bytes_less-turned}
 use Rattle.elem_store.specs.Updates.{element_of, ids_of}
 use Rattle.elem_store.proofs.CallerLemmas.{Contains-cons, Contains-head, find-Some, member, same_elements, same_id}
 use Rattle.view.proofs.CallerLemmas.{HaveDistinctIds-permuted, HaveDistinctIds-rising}

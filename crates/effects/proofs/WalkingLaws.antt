@@ -4,7 +4,7 @@ use Rattle.std.specs.List.{cons_option, filter_map}
 use Rattle.std.specs.Option.{option_map_or, unwrap_or}
 use Rattle.board_base.specs.declared.stop.Stop.{Stop}
 use Rattle.std.proofs.lemmas.Bool.{cases_Bool, eqb-true, eq-eqb}
-use Rattle.std.proofs.lemmas.Option.{same_Some}
+use Rattle.std.proofs.lemmas.Option.{same_Some, none-some}
 use Rattle.elem.specs.ElementValue.{ElementValue}
 use Rattle.elem.specs.Facts.{greatest_whole}
 use Rattle.elem.specs.Order.{unstamped}
@@ -51,13 +51,10 @@ told-other effect o e new some is other =
           ∙ ap unstamped (sym m)))
     ]
 
-none-some : {X : Type 0} {x : X} → None ≡ Some x → ⊥
-none-some {X} h = subst (λ (o : Option X). elim o as (λ _. Type 0) [ None ↦ Unit {0} | Some _ ↦ ⊥ ]) h tt
-
 pub told-some : (e made new : ElementValue) → Some new ≡ told e made → (differs e made ≡ true) × (new ≡ made)
 told-some e made new h = elim (cases_Bool (differs e made)) [
   | inl t ↦ (t, same_Some new made (rw t at h))
-  | inr f ↦ absurd (none-some (sym (rw f at h)))
+  | inr f ↦ absurd (none-some _ (sym (rw f at h)))
 ]
 
 -- ---- one element that changes

@@ -1,9 +1,8 @@
 -- The names of an element's members are distinct.
-use Rattle.std.proofs.Common.{◌≡◌, ℕ, true, false, List, [], ◌∷◌, ◌++◌, bytes_eq, codes, refl, sym, ap, ◌∙◌, subst}
-use Rattle.std.specs.Cmp.Lexicographic.{slice_cmp, nat_list_eq_equiv, texts_ties}
+use Rattle.std.proofs.Common.{◌≡◌, ℕ, true, false, List, [], ◌∷◌, ◌++◌, bytes_eq, codes, refl, sym, ap, ◌∙◌, subst, Bool}
+use Rattle.std.specs.Cmp.Lexicographic.{nat_list_eq_equiv}
 use Rattle.std.specs.List.{IsDistinct, AllByRecursion, list_any}
-use Rattle.std.specs.Ordering.{is_eq, nat_cmp}
-use Rattle.std.proofs.lemmas.Bool.{or_parts}
+use Rattle.std.proofs.lemmas.Bool.{or_parts, or_from}
 use Rattle.std.proofs.lemmas.List.{map-append}
 use Rattle.std.proofs.lemmas.List.Folds.{list_any-append}
 use Rattle.std.proofs.lemmas.Map.Made.{IsDistinct-from_count}
@@ -14,17 +13,16 @@ use Rattle.json_text.proofs.CallerLemmas.{name_of, names_of, none_passes}
 use Rattle.scene_json.proofs.CallerLemmas.{names-pairs}
 use Rattle.frac_keys.specs.Keys.{bytes_less}
 use Rattle.frac_keys.specs.Rising.{are_rising}
+use Rattle.frac_keys.proofs.CallerLemmas.{bytes_eq-less}
 use Rattle.elem.specs.declared.kind.Kind.{Kind}
 use Rattle.elem.specs.declared.kind.Kind.TheVariants.{Rectangle, Diamond, Ellipse, Arrow, Line, Freedraw, Text, Image, Frame, Magicframe, Iframe, Embeddable, Other}
 use Rattle.elem.specs.declared.parts.Binding.{Binding}
 use Rattle.elem.specs.ElementValue.{ElementValue}
 use Rattle.elem.specs.Facts.{IsElement, IsBinding, header_names, own_names, is_header, names}
 use Rattle.elem.specs.Texts.{header_members, own_members}
-use Rattle.elem.proofs.Sorting.{IsRising, IsRising-from, less_is}
+use Rattle.elem.proofs.Sorting.{IsRising, IsRising-from}
 
 -- ---- lists of names
-bytes_eq-less : (a b : List ℕ) → bytes_less a b ≡ true → bytes_eq a b ≡ false
-bytes_eq-less a b h = texts_ties a b ∙ ap is_eq (less_is (slice_cmp nat_cmp a b) h)
 
 apart_from_rising : (name : List ℕ) (ms : List Pair) → AllByRecursion (λ (m : Pair). bytes_less name m.0 ≡ true) ms
     → AllByRecursion (λ y. bytes_eq name y ≡ false) (names_of ms)
@@ -66,6 +64,18 @@ IsDistinct-append (x ∷ xs) ys left right apart = (
   AllByRecursion-append _ xs ys left.0 (first_apart x xs ys apart),
   IsDistinct-append xs ys left.1 right (others_apart x xs ys apart),
 )
+
+-- ---- members whose names pass no test
+pub list_any-each : (test : List ℕ → Bool) (ms : List Member) → AllByRecursion (λ (m : Member). test m.name ≡ false) ms
+    → list_any test (names ms) ≡ false
+list_any-each test [] h = refl
+list_any-each test (m ∷ ms) h = or_from (test m.name) (list_any test (names ms)) h.0 (list_any-each test ms h.1)
+
+pub each-list_any : (test : List ℕ → Bool) (ms : List Member) → list_any test (names ms) ≡ false
+    → AllByRecursion (λ (m : Member). test m.name ≡ false) ms
+each-list_any test [] h = tt
+each-list_any test (m ∷ ms) h =
+    let parts = or_parts (test m.name) (list_any test (names ms)) h in (parts.0, each-list_any test ms parts.1)
 
 -- ---- the header names of a kind
 pub IsDistinct-header : (kind : Kind) → IsDistinct bytes_eq (header_names ++ own_names kind)

@@ -1,18 +1,20 @@
 -- A value stands for one thing alone.
-use Rattle.std.proofs.Common.{◌≡◌, ◌≢◌, ◌<◌, ◌^◌, ℕ, List, [], ◌∷◌, ◌++◌, map, refl, sym, ap, ap₂, ◌∙◌, subst, arith, IsUtf8, inl, inr, true, false, Bool, Option, Some, None, codes, decimal, bytes_eq, drop}
+use Rattle.std.proofs.Common.{◌≡◌, ◌≢◌, ◌<◌, ◌^◌, ℕ, List, [], ◌∷◌, ◌++◌, map, refl, sym, ap, ap₂, ◌∙◌, subst, arith, inl, inr, true, false, Bool, Option, Some, None, codes, decimal, bytes_eq, drop}
 use Rattle.std.specs.List.{AllByRecursion, list_any}
 use Rattle.std.proofs.lemmas.Bool.{or_parts, both_ways}
 use Rattle.std.proofs.lemmas.Map.Entries.{lookup_tail}
 use Rattle.std.specs.Prelude.{if◌then◌else◌}
+use Rattle.std.specs.Cmp.Lexicographic.{slice_cmp}
+use Rattle.std.specs.Ordering.{is_lt, nat_cmp}
+use Rattle.std.specs.declared.cmp.Ordering.TheVariants.{Less}
 use Rattle.json_text.specs.Characters.{quote}
 use Rattle.json_text.specs.Tree.{null_word, true_word, false_word}
 use Rattle.json_text.specs.Compact.{Member as Pair, array_text}
 use Rattle.json_text.specs.Members.{pairs}
-use Rattle.json_text.specs.Value.{IsCompact}
 use Rattle.json_text.specs.declared.text.Member.{Member}
 use Rattle.scene_json.specs.Named.{value_at, HaveRisingNames}
-use Rattle.json_text.proofs.CallerLemmas.{bytes_eq-apart, quote-compact, StartsWith, quote-starts, object-starts, heads-differ}
-use Rattle.scene_json.proofs.CallerLemmas.{value_of_decimal, IsBelow, rising_from, rising_none, rising_same, names-pairs}
+use Rattle.json_text.proofs.CallerLemmas.{bytes_eq-apart, StartsWith, quote-starts, object-starts, heads-differ}
+use Rattle.scene_json.proofs.CallerLemmas.{value_of_decimal, IsBelow, rising_from, rising_none, rising_same, names-pairs, quote-once, quotes-compact, quotes-once, rising_parts}
 use Rattle.frac_keys.specs.Keys.{is_key, bytes_less}
 use Rattle.frac_keys.specs.Rising.{are_rising}
 use Rattle.elem.specs.declared.kind.Kind.{Kind}
@@ -24,8 +26,8 @@ use Rattle.elem.specs.declared.parts.Binding.{Binding}
 use Rattle.elem.specs.Facts.{IsKind, names}
 use Rattle.elem.specs.Forms.{Find, IsText, IsKindName, IsWholeNumber, IsTruth, IsNull, IsTextOrNull, IsKeyOrNull, AreTexts, IsObject, IsListingEntry, AreListingEntries, IsListing, AreOthers, IsBindingObject, IsBindingOrNull}
 use Rattle.elem.specs.Texts.{kind_name, role_name}
-use Rattle.elem.proofs.Once.{quote-once, quotes-once, array-once, object-once}
-use Rattle.elem.proofs.Sorting.{IsRising, IsRising-from, less_is}
+use Rattle.elem.proofs.Once.{array-once, object-once}
+use Rattle.elem.proofs.Sorting.{IsRising, IsRising-from}
 
 -- ---- texts, numbers, truths
 pub text-once : (found : Option (List ℕ)) (a b : List ℕ) → IsText found a → IsText found b → a ≡ b
@@ -84,11 +86,6 @@ key_or_null-once found None None one two = refl
 key_or_null-once found None (Some b) one two = absurd (no_key found b one two)
 key_or_null-once found (Some a) None one two = absurd (no_key found a two one)
 key_or_null-once found (Some a) (Some b) one two = ap Some (text-once found a b one.0 two.0)
-
-pub quotes-compact : (limit : ℕ) (texts : List (List ℕ)) → AllByRecursion IsUtf8 texts
-    → AllByRecursion (IsCompact limit) (map quote texts)
-quotes-compact limit [] is = tt
-quotes-compact limit (t ∷ ts) is = (quote-compact limit t is.0, quotes-compact limit ts is.1)
 
 pub texts-once : (found : Option (List ℕ)) (xs ys : List (List ℕ)) → AreTexts found xs → AreTexts found ys → xs ≡ ys
 texts-once found xs ys one two =
@@ -180,7 +177,18 @@ rising-names (m ∷ ms) rise = rising_from m ms (below m ms rise.0) (rising-name
   where
     below : (m : Pair) (ms : List Pair) → AllByRecursion (λ (n : Pair). bytes_less m.0 n.0 ≡ true) ms → IsBelow m.0 ms
     below m [] h = tt
-    below m (n ∷ ns) h = (less_is _ h.0, below m ns h.1)
+    below m (n ∷ ns) h = let less : slice_cmp nat_cmp m.0 n.0 ≡ Less = grind (arith, h.0) in (less, below m ns h.1)
+
+-- and what rises so is so listed
+pub names-rising : (ms : List Pair) → HaveRisingNames ms → IsRising ms
+names-rising [] rise = tt
+names-rising (m ∷ ms) rise =
+    let parts = rising_parts m ms rise in (above m.0 ms parts.0, names-rising ms parts.1)
+  where
+    above : (name : List ℕ) (ms : List Pair) → IsBelow name ms
+        → AllByRecursion (λ (n : Pair). bytes_less name n.0 ≡ true) ms
+    above name [] h = tt
+    above name (n ∷ ns) h = (ap is_lt h.0, above name ns h.1)
 
 pub names-rise : (others : List Member) → are_rising (names others) ≡ true → HaveRisingNames (pairs others)
 names-rise others rise =
@@ -196,7 +204,7 @@ value_at-free test name (m ∷ ms) free passes =
     bytes_eq-apart name m.name (λ e. both_ways (test m.name) parts.0 (ap test (sym e) ∙ passes)) in
     lookup_tail (bytes_eq name) (m.name, m.value) (pairs ms) apart ∙ value_at-free test name ms parts.1 passes
 
-pairs-once : (xs ys : List Member) → pairs xs ≡ pairs ys → xs ≡ ys
+pub pairs-once : (xs ys : List Member) → pairs xs ≡ pairs ys → xs ≡ ys
 pairs-once [] [] e = refl
 pairs-once [] (y ∷ ys) e = cc
 pairs-once (x ∷ xs) [] e = cc

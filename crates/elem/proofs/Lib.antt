@@ -11,5 +11,5 @@ pub mod OrderLaws
 mod Rows
 pub mod Saying
 pub mod Sorting
-mod TellingLaws
+pub mod TellingLaws
 pub mod CallerLemmas

@@ -1,14 +1,12 @@
 -- Members that are written one after another, those of two rising lists in the order of their names.
 use Rattle.std.proofs.Common.{◌≡◌, ◌≢◌, ℕ, ◌+◌, ◌<◌, true, false, eqb, if◌then◌else◌, List, [], ◌∷◌, ◌++◌, All, length, get_or, take, map, bytes_eq, inl, inr, refl, sym, ap, ◌∙◌, subst, arith, append-nil, append_assoc}
-use Rattle.std.specs.Cmp.Lexicographic.{nat_list_eq_equiv}
 use Rattle.std.specs.List.{AllByRecursion, IsDistinct, join_with_byte}
 use Rattle.std.specs.List.Sorted.{IsPermutation}
 use Rattle.std.specs.Str.{IsUtf8}
 use Rattle.std.proofs.lemmas.Bool.{cases_Bool, eq-eqb, ne_eqb}
 use Rattle.std.proofs.lemmas.List.{map-append, length-append, take_more}
 use Rattle.std.proofs.lemmas.List.Elements.{All-nil, All-cons, All-append, All-from_recursion, recursion_from_All}
-use Rattle.std.proofs.lemmas.List.Sorted.{All-permutation, IsPermutation-refl, IsPermutation-sym, IsPermutation-cons, IsPermutation-trans, IsPermutation-middle, IsPermutation-map, IsPermutation-append_comm, IsPermutation-append_left, IsPermutation-append_right}
-use Rattle.std.proofs.lemmas.Map.Keys.{IsDistinct-IsPermutation}
+use Rattle.std.proofs.lemmas.List.Sorted.{All-permutation, IsPermutation-refl, IsPermutation-sym, IsPermutation-cons, IsPermutation-trans, IsPermutation-middle, IsPermutation-append_comm, IsPermutation-append_left, IsPermutation-append_right}
 use Rattle.json_text.specs.Appending.{Extends}
 use Rattle.json_text.specs.Characters.{quote}
 use Rattle.json_text.specs.Compact.{Member as Pair, member_text, object_text}
@@ -17,11 +15,13 @@ use Rattle.json_text.specs.Value.{IsCompact}
 use Rattle.json_text.specs.declared.text.Member.{Member}
 use Rattle.json_text.proofs.CallerLemmas.{names_of, object-compact, join-push}
 use Rattle.frac_keys.specs.Keys.{bytes_less}
+use Rattle.frac_keys.proofs.CallerLemmas.{bytes_less-trans, bytes_less-turned}
+use Rattle.scene_json.proofs.CallerLemmas.{distinct_moved}
 use Rattle.elem.specs.Printing.{opened, IsBegun, mark, members_below, members_not_below, merged, AreSound}
 use Rattle.elem.specs.Texts.{sorted_members}
 use Rattle.elem.proofs.Appending.{extends_same, extends_by, extends_then}
 use Rattle.elem.proofs.Distinct.{IsDistinct-rising, AllByRecursion-append}
-use Rattle.elem.proofs.Sorting.{IsRising, IsRising-sorted, IsPermutation-sorted, AllByRecursion-weaker, bytes_less-trans, bytes_less-turned, same_rising}
+use Rattle.elem.proofs.Sorting.{IsRising, IsRising-sorted, IsPermutation-sorted, AllByRecursion-weaker, same_rising}
 
 -- ---- members behind an opening bracket
 opened-more : (n : Pair) (ns : List Pair) (m : Pair) → opened ((n ∷ ns) ++ m ∷ []) ≡ opened (n ∷ ns) ++ 44
@@ -240,11 +240,6 @@ unfolding IsDistinct
 distinct_right [] ys h = h
 distinct_right (x ∷ xs) ys h = distinct_right xs ys h.1
 
-distinct_moved : (xs ys : List Pair) → IsPermutation xs ys → IsDistinct bytes_eq (names_of xs)
-    → IsDistinct bytes_eq (names_of ys)
-distinct_moved xs ys moved apart = IsDistinct-IsPermutation bytes_eq nat_list_eq_equiv.symm (names_of xs) (names_of ys)
-    (IsPermutation-map (λ (m : Pair). m.0) xs ys moved) apart
-
 moved_all : (P : Pair → Type 0) (xs ys : List Pair) → IsPermutation xs ys → AllByRecursion P xs → AllByRecursion P ys
 moved_all P xs ys moved h = recursion_from_All P ys (All-permutation P xs ys moved (All-from_recursion P xs h))
 
@@ -302,11 +297,6 @@ pub merging-from : (limit : ℕ) (before : List ℕ) (hs : List Pair) (rest : Li
     → AllByRecursion (λ (m : Pair). IsCompact limit m.1) (pairs rest) → Merging limit before before hs rest hs rest
 merging-from limit before hs rest nest =
     record { written = []; begun = sym (append-nil before); left = refl; sound = tt; nest = nest }
-
-pub nest-pairs : (limit : ℕ) (ms : List Member) → AllByRecursion (λ (m : Member). IsCompact limit m.value) ms
-    → AllByRecursion (λ (m : Pair). IsCompact limit m.1) (pairs ms)
-nest-pairs limit [] h = tt
-nest-pairs limit (m ∷ ms) h = (h.0, nest-pairs limit ms h.1)
 
 both : (limit : ℕ) (ms : List Member) → AllByRecursion (λ (m : Member). IsUtf8 m.name) ms
     → AllByRecursion (λ (m : Pair). IsCompact limit m.1) (pairs ms) → AreSound limit (pairs ms)

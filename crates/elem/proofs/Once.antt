@@ -1,5 +1,5 @@
 -- Texts of strings, arrays and objects are read in one way alone.
-use Rattle.std.proofs.Common.{◌≡◌, ℕ, List, [], ◌∷◌, ◌++◌, map, refl, sym, ap, ap₂, ◌∙◌, subst, lit≤, arith, append_assoc, append-nil, IsUtf8, true, false}
+use Rattle.std.proofs.Common.{◌≡◌, ℕ, List, [], ◌∷◌, ◌++◌, map, refl, sym, ap, ap₂, ◌∙◌, subst, lit≤, arith, append_assoc, IsUtf8, true, false}
 use Rattle.std.specs.List.{AllByRecursion, join_with_byte}
 use Rattle.std.proofs.lemmas.Bool.Decides.{nat_tests}
 use Rattle.json_text.specs.Characters.{quote, ends_value}
@@ -21,19 +21,6 @@ quote-front a b r t one two e =
     let read = pieces-once p.pieces q.pieces r t p.good q.good
     (sym (append_assoc _ (34 ∷ []) r) ∙ tail-same same ∙ append_assoc _ (34 ∷ []) t) in
     (sym p.means ∙ (ap content read.0 ∙ q.means), read.1)
-
-pub quote-once : (a b : List ℕ) → IsUtf8 a → IsUtf8 b → quote a ≡ quote b → a ≡ b
-quote-once a b one two e = (quote-front a b [] [] one two (append-nil (quote a) ∙ e ∙ sym (append-nil (quote b)))).0
-
-pub quotes-once : (xs ys : List (List ℕ)) → AllByRecursion IsUtf8 xs → AllByRecursion IsUtf8 ys
-    → map quote xs ≡ map quote ys → xs ≡ ys
-quotes-once [] [] one two e = refl
-quotes-once [] (b ∷ ys) one two e = cc
-quotes-once (a ∷ xs) [] one two e = cc
-quotes-once (a ∷ xs) (b ∷ ys) one two e =
-    let first : quote a ≡ quote b = cc in
-    let more : map quote xs ≡ map quote ys = cc in
-    ap₂ (λ z zs. z ∷ zs) (quote-once a b one.0 two.0 first) (quotes-once xs ys one.1 two.1 more)
 
 -- ---- a value in a container
 no-number : (b : ℕ) → ends_value b ≡ true → extends_number b ≡ false

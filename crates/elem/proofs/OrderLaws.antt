@@ -1,18 +1,15 @@
 -- What `beats` is: a strict order by version, nonce and text.
-use Rattle.std.proofs.Common.{◌≡◌, true, false, List, ℕ, bytes_eq, inl, inr, sym, ◌∙◌, subst, arith}
-use Rattle.std.proofs.lemmas.Bool.{cases_Bool, false≢true}
+use Rattle.std.proofs.Common.{◌≡◌, true, false, sym, subst, arith}
 use Rattle.std.proofs.lemmas.Bool.Decides.{nat_tests}
-use Rattle.json_text.proofs.CallerLemmas.{bytes_eq-true}
-use Rattle.frac_keys.specs.Keys.{bytes_less}
+use Rattle.frac_keys.proofs.CallerLemmas.{bytes-below, bytes-neither, bytes_less-asym, bytes_less-trans, bytes_less_itself}
 use Rattle.elem.specs.ElementValue.{ElementValue}
 use Rattle.elem.specs.Order.{text_less, beats}
 use Rattle.elem.specs.Texts.{element_text}
-use Rattle.elem.proofs.Sorting.{bytes_less-same, bytes_less-asym, bytes_less-trans, bytes_less-turned}
 
 -- ---- the order of texts
 less-same : (a : ElementValue) → text_less a a ≡ false
 unfolding text_less
-less-same a = bytes_less-same (element_text a)
+less-same a = bytes_less_itself (element_text a)
 
 -- No element has a text that is less than that of an equal one.
 pub same-not_less : (a b : ElementValue) → a ≡ b → false ≡ text_less a b
@@ -26,27 +23,9 @@ less-trans : (a b c : ElementValue) → text_less a b ≡ true → text_less b c
 unfolding text_less
 less-trans a b c first second = bytes_less-trans (element_text a) (element_text b) (element_text c) first second
 
--- Where neither is less, the two are equal.
-pub bytes-neither : (a b : List ℕ) → bytes_less a b ≡ false → bytes_less b a ≡ false → a ≡ b
-bytes-neither a b first second = elim (cases_Bool (bytes_eq a b)) [
-  | inl same ↦ bytes_eq-true a b same
-  | inr differ ↦ absurd (false≢true (sym first ∙ bytes_less-turned a b differ second))
-]
-
 less-neither : (a b : ElementValue) → text_less a b ≡ false → text_less b a ≡ false → element_text a ≡ element_text b
 unfolding text_less
 less-neither a b first second = bytes-neither (element_text a) (element_text b) first second
-
--- What isn't greater than the one that isn't greater isn't greater.
-pub bytes-below : (a b c : List ℕ) → bytes_less b a ≡ false → bytes_less c b ≡ false → bytes_less c a ≡ false
-bytes-below a b c first second = elim (cases_Bool (bytes_less c a)) [
-  | inl less ↦ elim (cases_Bool (bytes_less a b)) [
-    | inl more ↦ absurd (false≢true (sym second ∙ bytes_less-trans c a b less more))
-    | inr same ↦ absurd (false≢true (sym second
-        ∙ subst (λ t. bytes_less c t ≡ true) (bytes-neither a b same first) less))
-  ]
-  | inr above ↦ above
-]
 
 less-below : (a b c : ElementValue) → text_less b a ≡ false → text_less c b ≡ false → text_less c a ≡ false
 unfolding text_less

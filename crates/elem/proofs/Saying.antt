@@ -1,17 +1,11 @@
 -- Members say one element alone, and the members of an element say that element.
-use Rattle.std.proofs.Common.{◌≡◌, ◌≤◌, ◌<◌, ◌^◌, ℕ, zero, suc, List, [], ◌∷◌, ◌++◌, map, refl, sym, ap, ◌∙◌, subst, lit≤, arith, IsUtf8, inl, inr, true, false, Bool, Option, Some, None, IfSome, codes, decimal, bytes_eq}
+use Rattle.std.proofs.Common.{◌≡◌, ◌≤◌, ◌<◌, ◌^◌, ℕ, List, [], ◌∷◌, ◌++◌, map, refl, sym, ap, ◌∙◌, subst, lit≤, arith, IsUtf8, inl, inr, true, false, Bool, Option, Some, None, IfSome, codes, decimal, bytes_eq}
 use Rattle.std.specs.Cmp.Lexicographic.{nat_list_eq_equiv}
-use Rattle.std.specs.List.{AllByRecursion, IsDistinct, list_all, list_any}
-use Rattle.std.proofs.lemmas.Bool.{and_parts, or_parts, or_from, both_ways}
-use Rattle.std.proofs.lemmas.List.Elements.{All-from_recursion, recursion_from_All}
+use Rattle.std.specs.List.{AllByRecursion, IsDistinct, list_any}
+use Rattle.std.proofs.lemmas.Bool.{or_parts, or_from, both_ways}
 use Rattle.std.proofs.lemmas.List.Folds.{list_any-append}
-use Rattle.std.proofs.lemmas.List.Sorted.{All-permutation}
 use Rattle.std.proofs.lemmas.Map.Entries.{lookup_tail}
 use Rattle.std.proofs.lemmas.Map.Made.{IsDistinct-from_count}
-use Rattle.std.proofs.lemmas.Str.{IsUtf8-from_ascii}
-use Rattle.std.specs.Str.{IsAscii}
-use Rattle.std.specs.Prelude.{nat_lt}
-use Rattle.std.proofs.lemmas.Bool.Decides.{nat_tests}
 use Rattle.json_text.specs.Characters.{quote}
 use Rattle.json_text.specs.Compact.{Member as Pair, array_text}
 use Rattle.json_text.specs.Members.{pairs}
@@ -20,8 +14,8 @@ use Rattle.json_text.specs.Tree.{null_word, true_word, false_word}
 use Rattle.json_text.specs.Value.{IsCompact}
 use Rattle.json_text.specs.declared.text.Member.{Member}
 use Rattle.scene_json.specs.Named.{value_at}
-use Rattle.json_text.proofs.CallerLemmas.{bytes_eq-true, Value-deeper, quote-compact, literal-compact, array-compact, object-compact, decimal-number}
-use Rattle.scene_json.proofs.CallerLemmas.{distinct_moved, same_moved, names-pairs}
+use Rattle.json_text.proofs.CallerLemmas.{bytes_eq-true, Value-deeper, quote-compact, literal-compact, array-compact, object-compact, decimal-number, ascii-utf8}
+use Rattle.scene_json.proofs.CallerLemmas.{distinct_moved, same_moved, names-pairs, quotes-compact}
 use Rattle.frac_keys.specs.Keys.{is_key}
 use Rattle.frac_keys.specs.Rising.{are_rising}
 use Rattle.elem.specs.declared.kind.Kind.{Kind}
@@ -35,11 +29,11 @@ use Rattle.elem.specs.Facts.{greatest_whole, header_names, own_names, is_header,
 use Rattle.elem.specs.Forms.{Find, find_in, IsTextOrNull, IsKeyOrNull, AreListingEntries, AreOthers, IsBindingOrNull}
 use Rattle.elem.specs.Said.{is_named, IsOwn, Says, IsBindingText, HasValidTexts}
 use Rattle.elem.specs.Texts.{kind_name, role_name, truth_text, text_or_null, bound_text, binding_text, own_members, header_members, sorted_members, element_members, element_text}
-use Rattle.elem.proofs.Distinct.{IsDistinct-element, IsDistinct-binding, names_of-header}
-use Rattle.elem.proofs.FormsOnce.{text-once, whole-once, truth-once, text_or_null-once, key_or_null-once, quotes-compact, texts-once, kind_of_name-once, kind-once, listing-once, others-once, binding-once}
+use Rattle.elem.proofs.Distinct.{IsDistinct-element, IsDistinct-binding, names_of-header, AllByRecursion-append}
+use Rattle.elem.proofs.FormsOnce.{text-once, whole-once, truth-once, text_or_null-once, key_or_null-once, texts-once, kind_of_name-once, kind-once, listing-once, others-once, binding-once}
 use Rattle.elem.proofs.KeyTexts.{IsUtf8-key}
 use Rattle.elem.proofs.Once.{object-once}
-use Rattle.elem.proofs.Sorting.{AllByRecursion-weaker, IsPermutation-sorted}
+use Rattle.elem.proofs.Sorting.{AllByRecursion-weaker, IsPermutation-sorted, AllByRecursion-sorted}
 
 -- ---- one element alone
 own-once : {A : Type 0} (own : Bool) (IsForm : Option (List ℕ) → Option A
@@ -103,14 +97,11 @@ Says-once find a b one two =
     (others-once (is_header a.kind) find a.rest b.rest one.rest rest)
 
 -- ---- sorted members
-moved-all : (P : Pair → Type 0) (ms : List Pair) → AllByRecursion P ms → AllByRecursion P (sorted_members ms)
-moved-all P ms h = recursion_from_All P (sorted_members ms)
-    (All-permutation P ms (sorted_members ms) (IsPermutation-sorted ms) (All-from_recursion P ms h))
 
 pub sorted-AreMembers : (limit : ℕ) (ms : List Pair) → AreMembers limit ms → AreMembers limit (sorted_members ms)
 sorted-AreMembers limit ms are = record {
-  named = moved-all (λ m. IsUtf8 m.0) ms are.named;
-  valued = moved-all (λ m. IsCompact limit m.1) ms are.valued;
+  named = AllByRecursion-sorted (λ m. IsUtf8 m.0) ms are.named;
+  valued = AllByRecursion-sorted (λ m. IsCompact limit m.1) ms are.valued;
   distinct = distinct_moved ms (sorted_members ms) (IsPermutation-sorted ms) are.distinct;
 }
 
@@ -149,16 +140,6 @@ found-sorted : (ms : List Pair) → IsDistinct bytes_eq (names_of ms) → (name 
 found-sorted ms apart name value is = sym (same_moved ms (sorted_members ms) apart (IsPermutation-sorted ms) name) ∙ is
 
 -- ---- an element's members
-below-limit : (b : ℕ) → nat_lt b 128 ≡ true → b < 128
-below-limit b h = grind (arith, nat_tests)
-
-all-ascii : (text : List ℕ) → list_all (λ b. nat_lt b 128) text ≡ true → IsAscii text
-all-ascii [] h i = omega arith
-all-ascii (b ∷ bs) h zero = below-limit b (and_parts (nat_lt b 128) (list_all (λ x. nat_lt x 128) bs) h).0
-all-ascii (b ∷ bs) h (suc i) = all-ascii bs (and_parts (nat_lt b 128) (list_all (λ x. nat_lt x 128) bs) h).1 i
-
-pub literal : (text : List ℕ) → list_all (λ b. nat_lt b 128) text ≡ true → IsUtf8 text
-literal text h = IsUtf8-from_ascii text (all-ascii text h)
 
 null-compact : (limit : ℕ) → IsCompact limit null_word
 null-compact limit = literal-compact limit null_word (inr (inl refl))
@@ -180,13 +161,13 @@ key-utf8 None is = tt
 key-utf8 (Some key) is = IsUtf8-key key is
 
 role-utf8 : (role : Role) → IsUtf8 (role_name role)
-role-utf8 roles.Arrow = literal (codes "arrow") refl
-role-utf8 roles.Text = literal (codes "text") refl
+role-utf8 roles.Arrow = ascii-utf8 (codes "arrow") refl
+role-utf8 roles.Text = ascii-utf8 (codes "text") refl
 
 entry-are : (limit : ℕ) (entry : BoundRef) → IsUtf8 entry.id
     → AreMembers limit ((codes "id", quote entry.id) ∷ (codes "type", quote (role_name entry.role)) ∷ [])
 entry-are limit entry is = record {
-  named = (literal (codes "id") refl, (literal (codes "type") refl, tt));
+  named = (ascii-utf8 (codes "id") refl, (ascii-utf8 (codes "type") refl, tt));
   valued = (quote-compact limit entry.id is, (quote-compact limit (role_name entry.role) (role-utf8 entry.role), tt));
   distinct = IsDistinct-from_count nat_list_eq_equiv _ refl;
 }
@@ -214,7 +195,7 @@ values-valued limit (m ∷ ms) is = (is.0, values-valued limit ms is.1)
 binding-are : (binding : Binding) → IsBinding binding → IsBindingText binding
     → AreMembers 118 ((codes "elementId", quote binding.target) ∷ pairs binding.rest)
 binding-are binding is text = record {
-  named = (literal (codes "elementId") refl, names-named binding.rest text.rest);
+  named = (ascii-utf8 (codes "elementId") refl, names-named binding.rest text.rest);
   valued = (quote-compact 118 binding.target text.target, values-valued 118 binding.rest is.nest);
   distinct = subst (λ ns. IsDistinct bytes_eq (codes "elementId" ∷ ns)) (sym (names-pairs binding.rest))
       (IsDistinct-binding binding is);
@@ -246,9 +227,9 @@ own-valued e Embeddable is w = tt
 own-valued e (Other name) is w = tt
 
 own-named : (e : ElementValue) (kind : Kind) → AllByRecursion (λ (m : Pair). IsUtf8 m.0) (own_members e kind)
-own-named e Text = (literal (codes "containerId") refl, tt)
-own-named e Arrow = (literal (codes "startBinding") refl, (literal (codes "endBinding") refl, tt))
-own-named e Image = (literal (codes "fileId") refl, tt)
+own-named e Text = (ascii-utf8 (codes "containerId") refl, tt)
+own-named e Arrow = (ascii-utf8 (codes "startBinding") refl, (ascii-utf8 (codes "endBinding") refl, tt))
+own-named e Image = (ascii-utf8 (codes "fileId") refl, tt)
 own-named e Rectangle = tt
 own-named e Diamond = tt
 own-named e Ellipse = tt
@@ -259,11 +240,6 @@ own-named e Magicframe = tt
 own-named e Iframe = tt
 own-named e Embeddable = tt
 own-named e (Other name) = tt
-
-append-all : {X : Type 0} (P : X → Type 0) (xs ys : List X) → AllByRecursion P xs → AllByRecursion P ys
-    → AllByRecursion P (xs ++ ys)
-append-all P [] ys left right = right
-append-all P (x ∷ xs) ys left right = (left.0, append-all P xs ys left.1 right)
 
 header-valued : (e : ElementValue) → IsElement e → HasValidTexts e
     → AllByRecursion (λ (m : Pair). IsCompact 119 m.1) (header_members e)
@@ -301,25 +277,25 @@ header-valued e is w = (
 
 header-named : (e : ElementValue) → AllByRecursion (λ (m : Pair). IsUtf8 m.0) (header_members e)
 header-named e = (
-  literal (codes "id") refl,
+  ascii-utf8 (codes "id") refl,
   (
-    literal (codes "type") refl,
+    ascii-utf8 (codes "type") refl,
     (
-      literal (codes "version") refl,
+      ascii-utf8 (codes "version") refl,
       (
-        literal (codes "versionNonce") refl,
+        ascii-utf8 (codes "versionNonce") refl,
         (
-          literal (codes "updated") refl,
+          ascii-utf8 (codes "updated") refl,
           (
-            literal (codes "isDeleted") refl,
+            ascii-utf8 (codes "isDeleted") refl,
             (
-              literal (codes "index") refl,
+              ascii-utf8 (codes "index") refl,
               (
-                literal (codes "groupIds") refl,
+                ascii-utf8 (codes "groupIds") refl,
                 (
-                  literal (codes "frameId") refl,
+                  ascii-utf8 (codes "frameId") refl,
                   (
-                    literal (codes "boundElements") refl,
+                    ascii-utf8 (codes "boundElements") refl,
                     own-named e e.kind,
                   ),
                 ),
@@ -334,9 +310,10 @@ header-named e = (
 
 all-are : (e : ElementValue) → IsElement e → HasValidTexts e → AreMembers 119 (header_members e ++ pairs e.rest)
 all-are e is w = record {
-  named = append-all (λ (m : Pair). IsUtf8 m.0) (header_members e) (pairs e.rest) (header-named e)
+  named = AllByRecursion-append (λ (m : Pair). IsUtf8 m.0) (header_members e) (pairs e.rest) (header-named e)
       (names-named e.rest w.rest);
-  valued = append-all (λ (m : Pair). IsCompact 119 m.1) (header_members e) (pairs e.rest) (header-valued e is w)
+  valued =
+      AllByRecursion-append (λ (m : Pair). IsCompact 119 m.1) (header_members e) (pairs e.rest) (header-valued e is w)
       (values-valued 119 e.rest is.nest);
   distinct = IsDistinct-element e is;
 }

@@ -1,10 +1,7 @@
 -- Members in the order of the bytes of their names.
-use Rattle.std.proofs.Common.{◌≡◌, ℕ, true, false, Some, None, ◌⊎◌, inl, inr, List, [], ◌∷◌, map, bytes_eq, Ordering, is_lt, nat_cmp, if◌then◌else◌, refl, sym, ap, ◌∙◌, subst}
-use Rattle.std.specs.Cmp.Lexicographic.{slice_cmp, nat_list_cmp_total, texts_ties}
+use Rattle.std.proofs.Common.{◌≡◌, true, false, Some, None, ◌⊎◌, inl, inr, List, [], ◌∷◌, map, bytes_eq, if◌then◌else◌, refl, sym, ap, ◌∙◌, subst}
 use Rattle.std.specs.List.{IsDistinct, AllByRecursion}
 use Rattle.std.specs.List.Sorted.{IsPermutation}
-use Rattle.std.specs.Ordering.{is_eq, ordering_reverse}
-use Rattle.std.specs.declared.cmp.Ordering.TheVariants.{Less, Equal, Greater}
 use Rattle.std.proofs.lemmas.Bool.{and_parts, and_from, false≢true}
 use Rattle.std.proofs.lemmas.List.Elements.{All-from_recursion, recursion_from_All}
 use Rattle.std.proofs.lemmas.List.Sorted.{All-permutation, IsPermutation-refl, IsPermutation-sym, IsPermutation-cons, IsPermutation-trans, IsPermutation-middle}
@@ -12,45 +9,13 @@ use Rattle.json_text.specs.Compact.{Member as Pair}
 use Rattle.json_text.proofs.CallerLemmas.{names_of}
 use Rattle.frac_keys.specs.Keys.{bytes_less}
 use Rattle.frac_keys.specs.Rising.{are_rising, rise_between}
+use Rattle.frac_keys.proofs.CallerLemmas.{bytes_less-asym, bytes_less-trans, bytes_less-turned, bytes_less_itself}
 use Rattle.elem.specs.Texts.{with_member, sorted_members}
 
 -- Each name is less than those after it.
 abbrev pub IsRising : List Pair → Type 0
 IsRising [] = Unit {0}
 IsRising (m ∷ ms) = AllByRecursion (λ (n : Pair). bytes_less m.0 n.0 ≡ true) ms × IsRising ms
-
--- ---- the order of names
-pub less_is : (o : Ordering) → is_lt o ≡ true → o ≡ Less
-less_is Less h = refl
-less_is Equal h = cc
-less_is Greater h = cc
-
-pub bytes_less-trans : (a b c : List ℕ) → bytes_less a b ≡ true → bytes_less b c ≡ true → bytes_less a c ≡ true
-bytes_less-trans a b c first second =
-    ap is_lt (nat_list_cmp_total.trans a b c (less_is _ first) (less_is _ second))
-
-back : (o : Ordering) → o ≡ Less → is_lt (ordering_reverse o) ≡ false
-back o h = rw h refl
-
-pub bytes_less-asym : (a b : List ℕ) → bytes_less a b ≡ true → bytes_less b a ≡ false
-bytes_less-asym a b h = ap is_lt (nat_list_cmp_total.antisymm b a) ∙ back _ (less_is _ h)
-
-pub bytes_less-same : (a : List ℕ) → bytes_less a a ≡ false
-bytes_less-same a = elim (bytes_less a a) as (λ b. bytes_less a a ≡ b → bytes_less a a ≡ false) [
-  | true ↦ λ h. bytes_less-asym a a h
-  | false ↦ λ h. h
-] refl
-
-turned : (o p : Ordering) → o ≡ ordering_reverse p → is_eq o ≡ false → is_lt p ≡ false → is_lt o ≡ true
-turned o Less e differ above = cc
-turned o Equal e differ above = absurd (false≢true (sym differ ∙ ap is_eq e))
-turned o Greater e differ above = ap is_lt e
-
--- of two names that differ the one that isn't greater is less
-pub bytes_less-turned : (a b : List ℕ) → bytes_eq a b ≡ false → bytes_less b a ≡ false → bytes_less a b ≡ true
-bytes_less-turned a b differ above =
-    turned (slice_cmp nat_cmp a b) (slice_cmp nat_cmp b a) (nat_list_cmp_total.antisymm a b) (sym (texts_ties a b)
-    ∙ differ) above
 
 -- ---- what holds of each
 pub AllByRecursion-weaker : {X : Type 0} (P Q : X → Type 0) (xs : List X) → ((x : X) → P x → Q x) → AllByRecursion P xs
@@ -137,7 +102,7 @@ at_In P m (n ∷ ns) (inr i) h = at_In P m ns i h.1
 -- what is in a rising list and after its first is in the others
 later_in : (m n : Pair) (ms : List Pair) → bytes_less m.0 n.0 ≡ true → In n (m ∷ ms) → In n ms
 later_in m n ms above (inl e) =
-    absurd (false≢true (sym (bytes_less-same m.0) ∙ ap (λ (o : Pair). bytes_less m.0 o.0) (sym e) ∙ above))
+    absurd (false≢true (sym (bytes_less_itself m.0) ∙ ap (λ (o : Pair). bytes_less m.0 o.0) (sym e) ∙ above))
 later_in m n ms above (inr i) = i
 
 first_same : (m n : Pair) (ms ns : List Pair) → IsRising (m ∷ ms) → IsRising (n ∷ ns) → In m (n ∷ ns) → In n (m ∷ ms)

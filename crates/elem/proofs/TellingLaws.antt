@@ -3,9 +3,9 @@ use Rattle.std.proofs.Common.{◌≡◌, ℕ, ◌+◌, ◌<◌, List, [], ◌∷
 use Rattle.std.specs.List.{AllByRecursion}
 use Rattle.std.proofs.lemmas.List.{take_more}
 use Rattle.elem.proofs.Distinct.{AllByRecursion-append}
-use Rattle.elem.proofs.Saying.{literal}
 use Rattle.std.specs.Str.{IsUtf8}
 use Rattle.json_text.specs.declared.text.Member.{Member}
+use Rattle.json_text.proofs.CallerLemmas.{ascii-utf8}
 use Rattle.elem.specs.Facts.{names}
 use Rattle.elem.specs.declared.kind.Kind.{Kind}
 use Rattle.elem.specs.declared.kind.Kind.TheVariants as kinds
@@ -19,23 +19,23 @@ each-more P xs i x here within all own =
     (AllByRecursion-append P (take i xs) (x ∷ []) all (own, tt))
 
 -- members and their names
-pub names-each : (members : List Member) → AllByRecursion (λ (member : Member). IsUtf8 member.name) members
-    → AllByRecursion IsUtf8 (names members)
-names-each [] all = tt
-names-each (member ∷ members) all = (all.0, names-each members all.1)
+pub names-each : (P : List ℕ → Type 0) (members : List Member)
+    → AllByRecursion (λ (member : Member). P member.name) members → AllByRecursion P (names members)
+names-each P [] all = tt
+names-each P (member ∷ members) all = (all.0, names-each P members all.1)
 
 -- a kind that isn't another one has a name of the program
 pub known-name : (kind : Kind) → ((name : List ℕ) → kind ≡ kinds.Other name → IsUtf8 name) → IsUtf8 (kind_name kind)
-known-name kinds.Rectangle h = literal (codes "rectangle") refl
-known-name kinds.Diamond h = literal (codes "diamond") refl
-known-name kinds.Ellipse h = literal (codes "ellipse") refl
-known-name kinds.Arrow h = literal (codes "arrow") refl
-known-name kinds.Line h = literal (codes "line") refl
-known-name kinds.Freedraw h = literal (codes "freedraw") refl
-known-name kinds.Text h = literal (codes "text") refl
-known-name kinds.Image h = literal (codes "image") refl
-known-name kinds.Frame h = literal (codes "frame") refl
-known-name kinds.Magicframe h = literal (codes "magicframe") refl
-known-name kinds.Iframe h = literal (codes "iframe") refl
-known-name kinds.Embeddable h = literal (codes "embeddable") refl
+known-name kinds.Rectangle h = ascii-utf8 (codes "rectangle") refl
+known-name kinds.Diamond h = ascii-utf8 (codes "diamond") refl
+known-name kinds.Ellipse h = ascii-utf8 (codes "ellipse") refl
+known-name kinds.Arrow h = ascii-utf8 (codes "arrow") refl
+known-name kinds.Line h = ascii-utf8 (codes "line") refl
+known-name kinds.Freedraw h = ascii-utf8 (codes "freedraw") refl
+known-name kinds.Text h = ascii-utf8 (codes "text") refl
+known-name kinds.Image h = ascii-utf8 (codes "image") refl
+known-name kinds.Frame h = ascii-utf8 (codes "frame") refl
+known-name kinds.Magicframe h = ascii-utf8 (codes "magicframe") refl
+known-name kinds.Iframe h = ascii-utf8 (codes "iframe") refl
+known-name kinds.Embeddable h = ascii-utf8 (codes "embeddable") refl
 known-name (kinds.Other name) h = h name refl

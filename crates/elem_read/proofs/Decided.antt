@@ -3,6 +3,7 @@ use Rattle.std.proofs.Common.{◌≡◌, ◌≢◌, ◌⊎◌, inl, inr, ℕ, ze
 use Rattle.std.specs.List.{AllByRecursion, list_any}
 use Rattle.std.proofs.lemmas.Bool.{cases_Bool, cases_lt, or_parts, or_from, both_ways}
 use Rattle.std.proofs.lemmas.Map.Entries.{lookup_tail}
+use Rattle.std.proofs.lemmas.Option.{same_Some}
 use Rattle.json_text.specs.Characters.{quote}
 use Rattle.json_text.specs.Compact.{Member as Pair, array_text, object_text}
 use Rattle.json_text.specs.Members.{pairs}
@@ -12,7 +13,7 @@ use Rattle.json_text.specs.Value.{IsCompact}
 use Rattle.json_text.specs.declared.text.Member.{Member}
 use Rattle.scene_json.specs.Named.{value_at, HaveRisingNames}
 use Rattle.json_text.proofs.CallerLemmas.{bytes_eq-true, bytes_eq-same, Value-deeper, string-or-not, array-or-not, object-or-not}
-use Rattle.scene_json.proofs.CallerLemmas.{tabled}
+use Rattle.scene_json.proofs.CallerLemmas.{tabled, quotes-compact}
 use Rattle.frac_keys.specs.Keys.{is_key}
 use Rattle.elem.specs.declared.kind.Kind.{Kind}
 use Rattle.elem.specs.declared.kind.Kind.TheVariants.{Rectangle, Diamond, Ellipse, Arrow, Line, Freedraw, Text, Image, Frame, Magicframe, Iframe, Embeddable, Other}
@@ -23,7 +24,7 @@ use Rattle.elem.specs.Facts.{greatest_whole, IsKind}
 use Rattle.elem.specs.Forms.{find_in, IsText, IsId, IsWholeNumber, IsTruth, IsNull, IsTextOrNull, IsKeyOrNull, AreTexts, IsObject, IsListingEntry, AreListingEntries, IsListing, AreOthers, IsBindingOrNull}
 use Rattle.elem.specs.Said.{IsOwn}
 use Rattle.elem.specs.Texts.{kind_name, role_name}
-use Rattle.elem.proofs.CallerLemmas.{text-once, quotes-compact, members-once, array-once}
+use Rattle.elem.proofs.CallerLemmas.{text-once, members-once, array-once}
 use Rattle.elem_read.proofs.Keeping.{found-has}
 use Rattle.elem_read.proofs.Others.{kept-others}
 use Rattle.elem_read.proofs.Parts.{no-binding}
@@ -47,15 +48,12 @@ fits-in limit ms small are name =
     fits-from (value_at name ms) (λ value e. Value-deeper small
     (found-has (λ _ v. IsCompact limit v) ms are.valued name value e))
 
-same-some : {A : Type 0} {x y : A} → Some x ≡ Some y → x ≡ y
-same-some e = cc
-
 -- ---- texts
 pub text-or-not : (found : Option (List ℕ)) → Fits found → Decided (IsText found)
 text-or-not None fits = inr (λ t is. let e = is.1 in cc)
 text-or-not (Some v) fits = elim (string-or-not v fits) [
   | inl (t, u, e) ↦ inl (t, (u, ap Some e))
-  | inr none ↦ inr (λ t is. none t (same-some is.1))
+  | inr none ↦ inr (λ t is. none t (same_Some _ _ is.1))
 ]
 
 pub id-or-not : (found : Option (List ℕ)) → Fits found → Decided (IsId found)
@@ -76,7 +74,8 @@ null-or-not (Some v) = elim (cases_Bool (bytes_eq v null_word)) [
     by : bytes_eq v null_word ≡ false → IsNull (Some v) → ⊥
     by e (inl none) = cc
     by e (inr null) =
-        both_ways (bytes_eq v null_word) e (ap (λ x. bytes_eq x null_word) (same-some null) ∙ bytes_eq-same null_word)
+        both_ways (bytes_eq v null_word) e (ap (λ x. bytes_eq x null_word) (same_Some _ _ null)
+        ∙ bytes_eq-same null_word)
 
 pub text_or_null-or-not : (found : Option (List ℕ)) → Fits found → Decided (IsTextOrNull found)
 text_or_null-or-not found fits = by (text-or-not found fits) (null-or-not found)
@@ -136,11 +135,11 @@ texts-or-not (Some v) fits = by (array-or-not v fits)
   where
     by : ((items : List (List ℕ)) × AllByRecursion (IsCompact 127) items × (v ≡ array_text items))
         ⊎ ((items : List (List ℕ)) → v ≢ array_text items) → Decided (AreTexts (Some v))
-    by (inr none) = inr (λ ts is. none (map quote ts) (same-some is.1))
+    by (inr none) = inr (λ ts is. none (map quote ts) (same_Some _ _ is.1))
     by (inl (items, all, e)) = elim (quotes-or-not items all) [
       | inl (ts, us, es) ↦ inl (ts, (us, ap Some (e ∙ ap array_text es)))
       | inr none ↦ inr (λ ts is. none ts (array-once items (map quote ts) all (quotes-compact 127 ts is.0) (sym e
-          ∙ same-some is.1)))
+          ∙ same_Some _ _ is.1)))
     ]
 
 -- ---- the kind of a name
@@ -198,7 +197,7 @@ number-within : (limit : ℕ) (found : Option (List ℕ)) → ((n : ℕ) × (n �
 number-within limit None = inr (λ n within e. cc)
 number-within limit (Some v) = elim (number-below v (suc limit)) [
   | inl (n, below, e) ↦ inl (n, omega arith, ap Some e)
-  | inr none ↦ inr (λ n within e. none n (omega arith) (same-some e))
+  | inr none ↦ inr (λ n within e. none n (omega arith) (same_Some _ _ e))
 ]
 
 pub whole-or-not : (found : Option (List ℕ)) → Decided (IsWholeNumber found)
@@ -213,9 +212,10 @@ truth-or-not (Some v) = by (cases_Bool (bytes_eq v true_word)) (cases_Bool (byte
   where
     neither : bytes_eq v true_word ≡ false → bytes_eq v false_word ≡ false → (t : Bool) → IsTruth (Some v) t → ⊥
     neither a b true is =
-        both_ways (bytes_eq v true_word) a (ap (λ x. bytes_eq x true_word) (same-some is) ∙ bytes_eq-same true_word)
+        both_ways (bytes_eq v true_word) a (ap (λ x. bytes_eq x true_word) (same_Some _ _ is) ∙ bytes_eq-same true_word)
     neither a b false is =
-        both_ways (bytes_eq v false_word) b (ap (λ x. bytes_eq x false_word) (same-some is) ∙ bytes_eq-same false_word)
+        both_ways (bytes_eq v false_word) b (ap (λ x. bytes_eq x false_word) (same_Some _ _ is)
+        ∙ bytes_eq-same false_word)
 
     by : (bytes_eq v true_word ≡ true) ⊎ (bytes_eq v true_word ≡ false) → (bytes_eq v false_word ≡ true)
         ⊎ (bytes_eq v false_word ≡ false) → Decided (IsTruth (Some v))
@@ -284,7 +284,7 @@ pub listing-or-not : (found : Option (List ℕ)) → Fits found → Decided (IsL
 listing-or-not None fits = inr (λ es is. let e = is.2 in cc)
 listing-or-not (Some v) fits = elim (array-or-not v fits) [
   | inl (items, all, e) ↦ let es = entries items all in inl (es.0, (items, all, ap Some e, es.1))
-  | inr none ↦ inr (λ es is. none is.0 (same-some is.2))
+  | inr none ↦ inr (λ es is. none is.0 (same_Some _ _ is.2))
 ]
 
 -- ---- further members

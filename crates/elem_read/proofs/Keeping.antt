@@ -20,7 +20,7 @@ use Rattle.elem.specs.ElementValue.{ElementValue}
 use Rattle.elem.specs.Facts.{IsBinding, IsElement, names, is_header}
 use Rattle.elem.specs.Forms.{Find, find_in, IsTextOrNull, IsKeyOrNull, IsObject, AreListingEntries, AreOthers, IsBindingObject, IsBindingOrNull}
 use Rattle.elem.specs.Said.{IsOwn, Says, IsBindingText, HasValidTexts}
-use Rattle.elem.proofs.CallerLemmas.{names-rise, members-once, AreMembers-deeper, named-is}
+use Rattle.elem.proofs.CallerLemmas.{names-rise, members-once, AreMembers-deeper, named-is, names-each}
 
 -- ---- what holds of all that is found
 abbrev pub AllFound : (List ℕ → List ℕ → Type 0) → Find → Type 0
@@ -75,10 +75,6 @@ others-hold P test find others holds are =
     others-each P test find others others holds are.same are.free
     (found-self (pairs others) (rising_distinct (pairs others) (names-rise others are.rise)))
 
-named-each : (ms : List Member) → AllByRecursion (λ (m : Member). IsUtf8 m.name) ms → AllByRecursion IsUtf8 (names ms)
-named-each [] all = tt
-named-each (m ∷ ms) all = (all.0, named-each ms all.1)
-
 -- ---- bindings
 pub object-nests : (limit : ℕ) (value : List ℕ) (members : List Pair) → limit ≤ 128 → limit - 1 ≤ 127
     → IsCompact limit value → IsObject value members → AreMembers (limit - 1) members
@@ -110,7 +106,8 @@ binding-kept found binding nests is =
 binding-written : (found : Option (List ℕ)) (binding : Binding) → IsBindingObject found binding → IsBindingText binding
 binding-written found binding is = record {
   target = is.target.0;
-  rest = named-each binding.rest (others-hold IsNamed (bytes_eq (codes "elementId")) (find_in is.members) binding.rest
+  rest = names-each IsUtf8 binding.rest (others-hold IsNamed (bytes_eq (codes "elementId")) (find_in is.members)
+      binding.rest
       (found-has IsNamed is.members is.object.are_members.named) is.rest);
 }
 
@@ -184,5 +181,5 @@ says-written find e named is = record {
       own-hold _ IsBindingOrNull _ e.start_binding _ is.start_binding (λ x own form. binding-written _ x form);
   end_binding = own-hold _ IsBindingOrNull _ e.end_binding _ is.end_binding (λ x own form. binding-written _ x form);
   file = own-hold _ IsTextOrNull _ e.file _ is.file (λ x own form. form.0);
-  rest = named-each e.rest (others-hold IsNamed (is_header e.kind) find e.rest named is.rest);
+  rest = names-each IsUtf8 e.rest (others-hold IsNamed (is_header e.kind) find e.rest named is.rest);
 }

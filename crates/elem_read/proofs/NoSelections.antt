@@ -1,5 +1,5 @@
 -- The value that is read, its members and the restored ones.
-use Rattle.std.proofs.Common.{◌≡◌, ◌≢◌, ℕ, List, [], ◌∷◌, Some, All, subst, refl, sym, ap, ◌∙◌, bytes_eq, codes, lit≤}
+use Rattle.std.proofs.Common.{◌≡◌, ◌≢◌, ℕ, List, [], ◌∷◌, Some, All, subst, refl, sym, ap, ◌∙◌, bytes_eq, codes, lit≤, Option, None}
 use Rattle.std.specs.List.{AllByRecursion}
 use Rattle.std.proofs.lemmas.Bool.{both_ways}
 use Rattle.std.proofs.lemmas.List.Elements.{recursion_from_All}
@@ -13,7 +13,7 @@ use Rattle.scene_json.specs.Walks.{IsTakenApart}
 use Rattle.scene_json.specs.declared.parts.Item.{Item}
 use Rattle.scene_json.specs.declared.parts.Item.TheVariants.{Object, Other}
 use Rattle.json_text.proofs.CallerLemmas.{bytes_eq-same, object-compact}
-use Rattle.scene_json.proofs.CallerLemmas.{AreMembers-values}
+use Rattle.scene_json.proofs.CallerLemmas.{AreMembers-values, pairs-each}
 use Rattle.restore_table.specs.Restored.{AreRestored, old_name}
 use Rattle.restore_table.proofs.CallerLemmas.{unknown-stays}
 use Rattle.elem.specs.ElementValue.{ElementValue}
@@ -54,11 +54,6 @@ pub given-nest : (value : List ℕ) (ms : List Member) → IsObject value (pairs
 given-nest value ms object shallow =
     AreMembers-values 119 ms (object-nests 120 value (pairs ms) (lit≤ tt) (lit≤ tt) shallow object)
 
-values-found : (limit : ℕ) (ms : List Member) → AllByRecursion (λ (m : Member). IsCompact limit m.value) ms
-    → AllByRecursion (λ (m : Pair). IsCompact limit m.1) (pairs ms)
-values-found limit [] is = tt
-values-found limit (m ∷ ms) is = (is.0, values-found limit ms is.1)
-
 pub nest-given : (value : List ℕ) (ms : List Member) → IsObject value (pairs ms)
     → All (λ (m : Member). IsCompact 119 m.value) ms → IsCompact 120 value
 nest-given value ms object each =
@@ -67,7 +62,8 @@ nest-given value ms object each =
     (record {
       named = are.named;
       valued =
-          values-found 119 ms (recursion_from_All (λ (m : Member). IsCompact 119 m.value) ms each);
+          pairs-each (λ (m : Pair). IsCompact 119 m.1) ms (recursion_from_All (λ (m : Member). IsCompact 119 m.value) ms
+          each);
       distinct =
           are.distinct;
     }))
@@ -83,7 +79,7 @@ kind-stays ms rs are kept there =
 pub members-found : (ms : List Member) → All (λ (m : Member). IsCompact 119 m.value) ms
     → AllFound (λ name value. IsCompact 119 value) (find_in (pairs ms))
 members-found ms is = found-has (λ name value. IsCompact 119 value) (pairs ms)
-    (values-found 119 ms (recursion_from_All (λ (m : Member). IsCompact 119 m.value) ms is))
+    (pairs-each (λ (m : Pair). IsCompact 119 m.1) ms (recursion_from_All (λ (m : Member). IsCompact 119 m.value) ms is))
 
 pub element-in : (value : List ℕ) (ms rs : List Pair) (e : ElementValue) → IsNoSelection value ms → IsCompact 120 value
     → AreRestored ms rs → Says (find_in rs) e → IsElementIn value e

@@ -6,7 +6,7 @@ use Rattle.std.specs.List.Sorted.{IsPermutation, IsSortedBy}
 use Rattle.std.proofs.lemmas.List.Elements.{All-from_recursion, recursion_from_All}
 use Rattle.std.proofs.lemmas.List.Sorted.{All-permutation, IsPermutation-map}
 use Rattle.std.specs.Ordering.{is_lt, nat_cmp}
-use Rattle.std.proofs.lemmas.Bool.{or_parts, or_from, both_ways}
+use Rattle.std.proofs.lemmas.Bool.{or_from, both_ways}
 use Rattle.std.proofs.lemmas.Map.Entries.{lookup_tail}
 use Rattle.json_text.specs.Compact.{Member as Pair}
 use Rattle.json_text.specs.Members.{pairs, pair_of}
@@ -14,26 +14,17 @@ use Rattle.json_text.specs.Parts.{names_of}
 use Rattle.json_text.specs.declared.text.Member.{Member}
 use Rattle.scene_json.specs.Named.{value_at, HaveRisingNames}
 use Rattle.json_text.proofs.CallerLemmas.{bytes_eq-apart}
-use Rattle.scene_json.proofs.CallerLemmas.{IsBelow, rising_parts, distinct_moved, same_moved, rising_from_sort, names-pairs}
+use Rattle.scene_json.proofs.CallerLemmas.{distinct_moved, same_moved, rising_from_sort, names-pairs}
 use Rattle.frac_keys.specs.Keys.{bytes_less}
 use Rattle.frac_keys.specs.Rising.{are_rising}
 use Rattle.elem.specs.Facts.{names}
 use Rattle.elem.specs.Forms.{find_in, AreOthers}
-use Rattle.elem.proofs.CallerLemmas.{IsRising, are_rising-from}
+use Rattle.elem.proofs.CallerLemmas.{IsRising, are_rising-from, names-rising, each-list_any, list_any-each}
 
 abbrev pub kept : (List ℕ → Bool) → List Member → List Member
 kept test ms = filter (λ (m : Member). not (test m.name)) ms
 
 -- ---- order
-below-more : (name : List ℕ) (ms : List Pair) → IsBelow name ms
-    → AllByRecursion (λ (n : Pair). bytes_less name n.0 ≡ true) ms
-below-more name [] h = tt
-below-more name (m ∷ ms) h = (ap is_lt h.0, below-more name ms h.1)
-
-pub IsRising-names : (ms : List Pair) → HaveRisingNames ms → IsRising ms
-IsRising-names [] rise = tt
-IsRising-names (m ∷ ms) rise =
-    let parts = rising_parts m ms rise in (below-more m.0 ms parts.0, IsRising-names ms parts.1)
 
 kept-all : (P : Pair → Type 0) (test : List ℕ → Bool) (ms : List Member) → AllByRecursion P (pairs ms)
     → AllByRecursion P (pairs (kept test ms))
@@ -97,7 +88,7 @@ pub kept-others : (test : List ℕ → Bool) (ms : List Member) → HaveRisingNa
     → AreOthers test (find_in (pairs ms)) (kept test ms)
 kept-others test ms rise = record {
   rise = ap are_rising (sym (names-pairs (kept test ms)))
-      ∙ are_rising-from (pairs (kept test ms)) (kept-rising test ms (IsRising-names (pairs ms) rise));
+      ∙ are_rising-from (pairs (kept test ms)) (kept-rising test ms (names-rising (pairs ms) rise));
   free = kept-free test ms;
   same = kept-same test ms;
 }
@@ -128,17 +119,6 @@ kept-distinct test (m ∷ ms) apart =
       )
     ]
 
-free-all : (test : List ℕ → Bool) (ms : List Member) → list_any test (names ms) ≡ false
-    → AllByRecursion (λ (m : Member). test m.name ≡ false) ms
-free-all test [] h = tt
-free-all test (m ∷ ms) h =
-    let parts = or_parts (test m.name) (list_any test (names ms)) h in (parts.0, free-all test ms parts.1)
-
-all-free : (test : List ℕ → Bool) (ms : List Member) → AllByRecursion (λ (m : Member). test m.name ≡ false) ms
-    → list_any test (names ms) ≡ false
-all-free test [] h = refl
-all-free test (m ∷ ms) h = or_from (test m.name) (list_any test (names ms)) h.0 (all-free test ms h.1)
-
 pub sorted-others : (test : List ℕ → Bool) (ms ws : List Member)
     → IsDistinct bytes_eq (map (λ (m : Member). m.name) ms)
     → IsPermutation (kept test ms) ws
@@ -151,11 +131,11 @@ sorted-others test ms ws apart moved up =
     let still = subst (IsDistinct bytes_eq) (names-pairs ws)
     (distinct_moved (pairs (kept test ms)) (pairs ws) paired distinct) in
     let rise = rising_from_sort ws up still in record {
-      rise = ap are_rising (sym (names-pairs ws)) ∙ are_rising-from (pairs ws) (IsRising-names (pairs ws) rise);
+      rise = ap are_rising (sym (names-pairs ws)) ∙ are_rising-from (pairs ws) (names-rising (pairs ws) rise);
       free =
-          all-free test ws (recursion_from_All P ws
+          list_any-each test ws (recursion_from_All P ws
           (All-permutation P (kept test ms) ws moved
-          (All-from_recursion P (kept test ms) (free-all test (kept test ms) (kept-free test ms)))));
+          (All-from_recursion P (kept test ms) (each-list_any test (kept test ms) (kept-free test ms)))));
       same = λ name other. sym (same_moved (pairs (kept test ms)) (pairs ws) distinct paired name)
           ∙ kept-same test ms name other;
     }

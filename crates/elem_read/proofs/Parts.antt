@@ -1,8 +1,8 @@
 -- What the parts of an element are read as.
-use Rattle.std.proofs.Common.{◌≡◌, ◌≢◌, ◌<◌, ℕ, zero, suc, List, [], ◌∷◌, ◌++◌, length, take, get_or, Bool, false, Option, Some, None, Result, Err, refl, sym, ap, subst, ◌∙◌, inl, inr, codes, bytes_eq, arith}
+use Rattle.std.proofs.Common.{◌≡◌, ◌≢◌, ◌<◌, ℕ, suc, List, [], ◌∷◌, ◌++◌, length, take, get_or, Bool, false, Option, Some, None, Result, Err, refl, ap, subst, ◌∙◌, inl, inr, codes, bytes_eq}
 use Rattle.std.specs.List.{AllByRecursion, list_any}
 use Rattle.std.proofs.lemmas.Bool.{or_from}
-use Rattle.json_text.proofs.CallerLemmas.{bytes_eq-apart}
+use Rattle.json_text.proofs.CallerLemmas.{bytes_eq-apart, take-next}
 use Rattle.json_text.specs.Characters.{quote}
 use Rattle.json_text.specs.Compact.{Member as Pair, object_text}
 use Rattle.json_text.specs.Tree.{null_word}
@@ -54,12 +54,6 @@ entries-drop [] entries item are lacks = inr (lacks, are)
 entries-drop (i ∷ items) entries item (inl (e, others, same, one, more)) lacks =
     inl (e, others, same, one, entries-drop items others item more lacks)
 entries-drop (i ∷ items) entries item (inr (none, more)) lacks = inr (none, entries-drop items entries item more lacks)
-
-take-next : {X : Type 0} (xs : List X) (i : ℕ) (x : X) → i < length xs → x ≡ get_or xs i x
-    → take (suc i) xs ≡ take i xs ++ x ∷ []
-take-next [] i x h e = absurd (omega arith)
-take-next (y ∷ ys) zero x h e = ap (λ z. z ∷ []) (sym e)
-take-next (y ∷ ys) (suc i) x h e = ap (λ rest. y ∷ rest) (take-next ys i x (omega arith) e)
 
 pub entries-more : (items : List (List ℕ)) (i : ℕ) (item : List ℕ) (old new : List BoundRef) → i < length items
     → item ≡ get_or items i item → AreListingEntries (take i items) old

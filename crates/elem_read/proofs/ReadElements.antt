@@ -1,10 +1,9 @@
 -- Values that are read one after the other.
 use Rattle.std.proofs.Common.{◌≡◌, ◌⊎◌, inl, inr, ℕ, zero, suc, ◌+◌, ◌<◌, List, [], ◌∷◌, ◌++◌, All, lit≤, length, take, take_all, drop, map, get_or, add-one, drop-cons, length-drop, refl, sym, ap, ap₂, subst, ◌∙◌, arith}
 use Rattle.std.specs.List.{AllByRecursion}
-use Rattle.std.proofs.lemmas.List.{take_more}
 use Rattle.std.proofs.lemmas.List.Elements.{recursion_from_All, All-from_recursion}
 use Rattle.json_text.specs.Value.{IsCompact}
-use Rattle.json_text.proofs.CallerLemmas.{Value-deeper}
+use Rattle.json_text.proofs.CallerLemmas.{Value-deeper, taken-next}
 use Rattle.scene_json.specs.Walks.{Walk, AreLeft}
 use Rattle.elem.specs.ElementValue.{ElementValue}
 use Rattle.elem.specs.Texts.{element_text}
@@ -32,17 +31,13 @@ dropped-append (v ∷ values) value elements is (inl (dropped, read)) =
 dropped-append (v ∷ values) value elements is (inr (first, others, all, here, read)) =
     inr (first, others, all, here, dropped-append values value others is read)
 
-next : (values : List (List ℕ)) (i : ℕ) (value : List ℕ) → i < length values → value ≡ get_or values i value
-    → take (i + 1) values ≡ take i values ++ value ∷ []
-next values i value within is = take_more values i value within ∙ ap (λ v. take i values ++ v ∷ []) (sym is)
-
 -- one more value that is an element
 pub read-more : (values : List (List ℕ)) (i : ℕ) (value : List ℕ) (elements new : List ElementValue) (e : ElementValue)
     → i < length values → value ≡ get_or values i value
     → AreRead (take i values) elements → IsElementIn value e → new ≡ elements ++ e ∷ []
     → AreRead (take (i + 1) values) new
 read-more values i value elements new e within at read is pushed =
-    subst (λ vs. AreRead vs new) (sym (next values i value within at))
+    subst (λ vs. AreRead vs new) (sym (taken-next values i value within at))
     (subst (AreRead (take i values ++ value ∷ [])) (sym pushed) (read-append (take i values) value elements e is read))
 
 -- one more value that is dropped
@@ -50,7 +45,7 @@ pub dropped-more : (values : List (List ℕ)) (i : ℕ) (value : List ℕ) (elem
     → value ≡ get_or values i value
     → AreRead (take i values) elements → IsSelection value → AreRead (take (i + 1) values) elements
 dropped-more values i value elements within at read is =
-    subst (λ vs. AreRead vs elements) (sym (next values i value within at))
+    subst (λ vs. AreRead vs elements) (sym (taken-next values i value within at))
     (dropped-append (take i values) value elements is read)
 
 -- a faulty value behind values that are read

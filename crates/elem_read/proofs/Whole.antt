@@ -14,7 +14,7 @@ use Rattle.json_text.specs.Tree.{null_word}
 use Rattle.json_text.specs.Value.{IsCompact}
 use Rattle.scene_json.specs.Named.{value_at, HaveRisingNames}
 use Rattle.scene_json.specs.TheOne.{IsTheOne}
-use Rattle.json_text.proofs.CallerLemmas.{bytes_eq-true, bytes_eq-same, Value-deeper, quote-compact, array-compact, object-compact, array-starts, heads-differ}
+use Rattle.json_text.proofs.CallerLemmas.{bytes_eq-true, bytes_eq-same, Value-deeper, quote-compact, array-compact, object-compact, array-starts, heads-differ, ascii-utf8}
 use Rattle.scene_json.proofs.CallerLemmas.{digit_of_decimal}
 use Rattle.restore_table.specs.Restored.{filled, arrow_text, listing_text, listing_at, listing_name, old_name, HasOldListing, AreRestored, LackNothing}
 use Rattle.restore_table.specs.Table.{defaults}
@@ -26,7 +26,7 @@ use Rattle.elem.specs.Facts.{greatest_whole, header_names, own_names, known_name
 use Rattle.elem.specs.Forms.{find_in, AreOthers}
 use Rattle.elem.specs.Said.{Says, HasValidTexts}
 use Rattle.elem.specs.Texts.{kind_name, truth_text, text_or_null, header_members, element_members}
-use Rattle.elem.proofs.CallerLemmas.{IsDistinct-element, text-once, rising-names, literal, AreMembers-deeper, element-are, element-says, element-found, IsRising-sorted}
+use Rattle.elem.proofs.CallerLemmas.{IsDistinct-element, text-once, rising-names, AreMembers-deeper, element-are, element-says, element-found, IsRising-sorted}
 use Rattle.elem_read.specs.Reading.{IsElementIn, IsWholeElement}
 use Rattle.elem_read.proofs.Keeping.{AllFound, found-has, object-nests, says-element, says-written}
 
@@ -43,7 +43,7 @@ ascii-named [] all = tt
 ascii-named (m ∷ ms) all =
     let parts = and_parts (list_all (λ b. nat_lt b 128) m.0)
     (list_all (λ (n : Pair). list_all (λ b. nat_lt b 128) n.0) ms) all in
-    (literal m.0 parts.0, ascii-named ms parts.1)
+    (ascii-utf8 m.0 parts.0, ascii-named ms parts.1)
 
 -- what holds of what is filled in
 filled-holds : (P : List ℕ → List ℕ → Type 0) (name value : List ℕ) (row given : Option (List ℕ))
@@ -94,8 +94,8 @@ restored-hold P ms rs are given default listing name value e =
 
 arrow-compact : (id : List ℕ) → IsUtf8 id → IsCompact 1 (arrow_text id)
 arrow-compact id is = object-compact 0 _ (record {
-  named = (literal (codes "id") refl, (literal (codes "type") refl, tt));
-  valued = (quote-compact 0 id is, (quote-compact 0 (codes "arrow") (literal (codes "arrow") refl), tt));
+  named = (ascii-utf8 (codes "id") refl, (ascii-utf8 (codes "type") refl, tt));
+  valued = (quote-compact 0 id is, (quote-compact 0 (codes "arrow") (ascii-utf8 (codes "arrow") refl), tt));
   distinct = IsDistinct-from_count nat_list_eq_equiv _ refl;
 })
 
@@ -118,7 +118,7 @@ pub restored-named : (limit : ℕ) (ms rs : List Pair) → AreMembers limit ms �
     → AllFound (λ name value. IsUtf8 name) (find_in rs)
 restored-named limit ms rs are restored =
     restored-hold IsNamed ms rs restored (found-has IsNamed ms are.named) (ascii-named defaults refl)
-    (λ ids is. literal listing_name refl)
+    (λ ids is. ascii-utf8 listing_name refl)
 
 -- ---- members that lack nothing are restored
 pub full-stays : (default : List ℕ) (found : Option (List ℕ)) → (value : List ℕ) × (found ≡ Some value)
@@ -390,7 +390,7 @@ IsSound-whole e sound =
         object = record { are_members = AreMembers-deeper 119 127 (element_members e) (lit≤ tt) are; spelled = refl };
         kind = λ selection. no-selection e.kind sound.is_element.kind
             (text-once _ (kind_name e.kind) (codes "selection") says.kind.0 (
-              literal (codes "selection") refl,
+              ascii-utf8 (codes "selection") refl,
               selection,
             ));
       };

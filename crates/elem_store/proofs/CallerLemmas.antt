@@ -9,5 +9,5 @@ pub use Rattle.elem_store.proofs.StoreLaws.{AreBest-stored, AreStored-best, AreS
 pub use Rattle.elem_store.proofs.StoreLaws.{AreStored-itself, AreStored-push, AreStored-stored, elements-stored}
 pub use Rattle.elem_store.proofs.StoreLaws.{ids-stay, store-unique, stores-converge, takings-stored}
 pub use Rattle.elem_store.proofs.Edits.{HasTaken-insert, HasTaken-not, element-at, element-gap, ids-set, is_taken-gap}
-pub use Rattle.elem_store.proofs.Placed.{element-found, found, some_within}
+pub use Rattle.elem_store.proofs.Placed.{element-found, found, get-last, some_within, within_stored}
 pub use Rattle.elem_store.proofs.Stored.{stored-exist}

@@ -12,7 +12,7 @@ use Rattle.std.proofs.lemmas.List.Edits.{length-insert}
 use Rattle.std.proofs.lemmas.List.Elements.{All-head, All-tail, All-cons, All-take, All-drop, All-append, All-weaker, filter_map-append}
 use Rattle.std.proofs.lemmas.List.Sorted.{searchable_from_sorted}
 use Rattle.std.proofs.lemmas.Map.Lookups.{exact_bytes}
-use Rattle.std.proofs.lemmas.Option.{slice_get-get_or, slice_get_within, get_or_from_slice_get}
+use Rattle.std.proofs.lemmas.Option.{slice_get-get_or, slice_get_within, get_or_from_slice_get, none-some}
 use Rattle.frac_keys.specs.Keys.{bytes_less}
 use Rattle.frac_keys.specs.Rising.{are_rising}
 use Rattle.elem.specs.ElementValue.{ElementValue}
@@ -28,6 +28,9 @@ pub some_within : (elements : List ElementValue) (place : ℕ) → place < lengt
 some_within [] place l = absurd (omega arith)
 some_within (x ∷ elements) zero l = (x, refl)
 some_within (x ∷ elements) (suc place) l = some_within elements place (omega arith)
+
+pub within_stored : (stored : List ElementValue) (i : ℕ) → i < length stored → None ≡ slice_get stored i → ⊥
+within_stored stored i l none = let x = some_within stored i l in none-some x.0 (none ∙ x.1)
 
 abbrev pub AllWithin : List ElementValue → List ℕ → Type 0
 AllWithin elements places = All (λ place. place < length elements) places
@@ -82,7 +85,8 @@ get-later [] later place l = absurd (omega arith)
 get-later (x ∷ elements) later zero l = refl
 get-later (x ∷ elements) later (suc place) l = get-later elements later place (omega arith)
 
-get-last : (elements : List ElementValue) (e : ElementValue) → slice_get (elements ++ e ∷ []) (length elements) ≡ Some e
+pub get-last : (elements : List ElementValue) (e : ElementValue) → slice_get (elements ++ e ∷ []) (length elements)
+    ≡ Some e
 get-last [] e = refl
 get-last (x ∷ elements) e = get-last elements e
 

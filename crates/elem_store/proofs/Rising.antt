@@ -1,36 +1,24 @@
 -- What an element of a list is in which the ids rise.
-use Rattle.std.proofs.Common.{◌≡◌, ℕ, zero, suc, ◌<◌, true, false, List, [], ◌∷◌, length, get_or, Option, Some, None, Contains, Ordering, Less, is_lt, nat_cmp, refl, sym, ap, ◌∙◌, subst, inl, inr, arith}
-use Rattle.std.specs.Cmp.Lexicographic.{slice_cmp}
+use Rattle.std.proofs.Common.{◌≡◌, ℕ, zero, suc, ◌<◌, true, List, [], ◌∷◌, length, get_or, Option, Some, None, Contains, refl, sym, ap, ◌∙◌, subst, inl, inr, arith}
 use Rattle.std.proofs.lemmas.Bool.{and_parts, both_ways, cases_Bool, cond-true, cond-false}
-use Rattle.std.proofs.lemmas.Cmp.{tied_itself, nat_list_cmp_total}
 use Rattle.std.proofs.lemmas.List.Elements.{Contains-get_or}
 use Rattle.std.proofs.lemmas.Option.{none-some}
 use Rattle.frac_keys.specs.Keys.{bytes_less}
 use Rattle.frac_keys.specs.Rising.{ends_rise, rise_between, are_rising}
+use Rattle.frac_keys.proofs.CallerLemmas.{bytes_less_itself, bytes_less-trans}
 use Rattle.elem.specs.ElementValue.{ElementValue}
 use Rattle.elem.specs.Order.{has_id}
 use Rattle.elem_store.specs.Updates.{element_of, ids_of}
 use Rattle.elem_store.proofs.Ids.{same_id, of_itself, of_other}
 use Rattle.elem_store.proofs.Lists.{Contains-cases, find-Some, find-None}
 
-less_itself : (a : List ℕ) → bytes_less a a ≡ false
-less_itself a = ap is_lt (tied_itself nat_list_cmp_total a)
-
-from_is_lt : (o : Ordering) → is_lt o ≡ true → o ≡ Less
-from_is_lt o h = grind arith
-
-less_trans : (a b c : List ℕ) → bytes_less a b ≡ true → bytes_less b c ≡ true → bytes_less a c ≡ true
-less_trans a b c h k =
-    ap is_lt (nat_list_cmp_total.trans a b c (from_is_lt (slice_cmp nat_cmp a b) h)
-    (from_is_lt (slice_cmp nat_cmp b c) k))
-
 -- a lesser id is another one
 pub less-other : (a b : List ℕ) → bytes_less a b ≡ true → a ≡ b → ⊥
-less-other a b h e = both_ways (bytes_less a a) (less_itself a) (subst (λ x. bytes_less a x ≡ true) (sym e) h)
+less-other a b h e = both_ways (bytes_less a a) (bytes_less_itself a) (subst (λ x. bytes_less a x ≡ true) (sym e) h)
 
 -- and not greater too
 pub less-less : (a b : List ℕ) → bytes_less a b ≡ true → bytes_less b a ≡ true → ⊥
-less-less a b h k = less-other a a (less_trans a b a h k) refl
+less-less a b h k = less-other a a (bytes_less-trans a b a h k) refl
 
 -- the ids above an end are above it
 pub above : (k : List ℕ) (b : Option (List ℕ)) (elements : List ElementValue) (e : ElementValue)
@@ -40,7 +28,7 @@ above k b (f ∷ elements) e h c =
     let parts = and_parts (bytes_less k f.id) (rise_between (Some f.id) b (ids_of elements)) h in
     elim (Contains-cases f elements e c) [
       | inl same ↦ subst (λ (x : ElementValue). bytes_less k x.id ≡ true) same parts.0
-      | inr later ↦ less_trans k f.id e.id parts.0 (above f.id b elements e parts.1 later)
+      | inr later ↦ bytes_less-trans k f.id e.id parts.0 (above f.id b elements e parts.1 later)
     ]
 
 -- so the end is the id of none of them

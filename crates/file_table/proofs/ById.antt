@@ -1,9 +1,7 @@
 -- Entries in the order of their ids: what is found under an id stays, the ids rise, and there is one such list.
-use Rattle.std.proofs.Common.{◌≡◌, inl, inr, ℕ, true, false, cond, List, [], ◌∷◌, Some, bytes_eq, nat_cmp, is_lt, if◌then◌else◌, refl, sym, ap, ◌∙◌, subst}
-use Rattle.std.specs.Cmp.Lexicographic.{slice_cmp}
-use Rattle.std.specs.List.{AllByRecursion, IsDistinct}
+use Rattle.std.proofs.Common.{◌≡◌, inl, inr, ℕ, true, false, cond, List, [], ◌∷◌, Some, bytes_eq, if◌then◌else◌, refl, sym, ap, ◌∙◌, subst}
+use Rattle.std.specs.List.{IsDistinct}
 use Rattle.std.specs.List.Sorted.{IsPermutation}
-use Rattle.std.specs.declared.cmp.Ordering.TheVariants.{Less}
 use Rattle.std.proofs.lemmas.Bool.{cases_Bool, false≢true}
 use Rattle.std.proofs.lemmas.List.Sorted.{IsPermutation-sym, IsPermutation-trans}
 use Rattle.json_text.specs.Compact.{Member as Pair}
@@ -11,10 +9,10 @@ use Rattle.json_text.specs.Parts.{names_of}
 use Rattle.json_text.specs.Value.{IsCompact}
 use Rattle.scene_json.specs.Named.{value_at, HaveRisingNames}
 use Rattle.json_text.proofs.CallerLemmas.{bytes_eq-true}
-use Rattle.scene_json.proofs.CallerLemmas.{IsBelow, rising_parts, rising_from, rising_none}
 use Rattle.frac_keys.specs.Keys.{bytes_less}
+use Rattle.frac_keys.proofs.CallerLemmas.{bytes_less_itself}
 use Rattle.elem.specs.Texts.{with_member, sorted_members}
-use Rattle.elem.proofs.CallerLemmas.{IsRising, IsRising-sorted, IsPermutation-sorted, same_rising, less_is, bytes_less-same, AllByRecursion-map, AllByRecursion-sorted, AllByRecursion-weaker}
+use Rattle.elem.proofs.CallerLemmas.{IsRising-sorted, IsPermutation-sorted, same_rising, AllByRecursion-sorted, names-rising, rising-names}
 use Rattle.file_table.specs.Table.{EntriesNest}
 
 -- ---- look-ups
@@ -23,7 +21,7 @@ apart-below q id other own less = elim (cases_Bool (bytes_eq q id)) [
   | inr apart ↦ apart
   | inl same ↦
       let one : other ≡ id = sym (bytes_eq-true q other own) ∙ bytes_eq-true q id same in
-      absurd (false≢true (sym (bytes_less-same id) ∙ subst (λ o. bytes_less o id ≡ true) one less))
+      absurd (false≢true (sym (bytes_less_itself id) ∙ subst (λ o. bytes_less o id ≡ true) one less))
 ]
 
 value-with_member : (q : List ℕ) (file : Pair) (files : List Pair)
@@ -46,32 +44,15 @@ value-by_id q (file ∷ files) =
     value-with_member q file (sorted_members files) ∙ ap (cond (bytes_eq q file.0) (Some file.1)) (value-by_id q files)
 
 -- ---- ids that rise
-below : (id : List ℕ) (files : List Pair) → AllByRecursion (λ (file : Pair). bytes_less id file.0 ≡ true) files
-    → IsBelow id files
-below id [] all = tt
-below id (file ∷ files) all = (less_is (slice_cmp nat_cmp id file.0) all.0, below id files all.1)
-
-rising : (files : List Pair) → IsRising files → HaveRisingNames files
-rising [] is = rising_none
-rising (file ∷ files) is = rising_from file files (below file.0 files is.0) (rising files is.1)
-
-pub risen : (files : List Pair) → HaveRisingNames files → IsRising files
-risen [] is = tt
-risen (file ∷ files) is =
-    let parts = rising_parts file files is in (
-      AllByRecursion-weaker _ _ files (λ other less. ap is_lt less)
-          (AllByRecursion-map (λ (other : Pair). other.0) (λ name. slice_cmp nat_cmp file.0 name ≡ Less) files parts.0),
-      risen files parts.1,
-    )
 
 pub rising-by_id : (files : List Pair) → IsDistinct bytes_eq (names_of files) → HaveRisingNames (sorted_members files)
-rising-by_id files distinct = rising (sorted_members files) (IsRising-sorted files distinct)
+rising-by_id files distinct = rising-names (sorted_members files) (IsRising-sorted files distinct)
 
 -- files that were moved so that their ids rise
 pub moved-by_id : (files others : List Pair) → IsDistinct bytes_eq (names_of files) → IsPermutation files others
     → HaveRisingNames others → others ≡ sorted_members files
 moved-by_id files others distinct moved rise =
-    same_rising others (sorted_members files) (risen others rise) (IsRising-sorted files distinct)
+    same_rising others (sorted_members files) (names-rising others rise) (IsRising-sorted files distinct)
     (IsPermutation-trans _ files _ (IsPermutation-sym _ _ moved) (IsPermutation-sorted files))
 
 -- ---- entries that nest

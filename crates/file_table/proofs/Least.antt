@@ -6,11 +6,13 @@ use Rattle.std.proofs.lemmas.List.Elements.{Contains-append_left, Contains-appen
 use Rattle.std.proofs.lemmas.Slice.Eq.{bytes_eq-Decides}
 use Rattle.json_text.specs.Compact.{Member as Pair}
 use Rattle.json_text.specs.Parts.{names_of}
+use Rattle.json_text.proofs.CallerLemmas.{bytes_eq-true}
 use Rattle.scene_json.specs.Named.{value_at, HaveRisingNames}
 use Rattle.scene_json.proofs.CallerLemmas.{rising_distinct, rising_same, rising_none}
 use Rattle.frac_keys.specs.Keys.{bytes_less}
+use Rattle.frac_keys.proofs.CallerLemmas.{bytes_less_itself, bytes-neither}
 use Rattle.file_table.specs.Table.{lesser, lesser_of, least_entry, IsLeast, AreLeastEntries}
-use Rattle.file_table.proofs.Lesser.{less_order, less_itself, same_bytes, lesser_either, lesser_of-either}
+use Rattle.file_table.proofs.Lesser.{less_order, lesser_either, lesser_of-either}
 
 -- ---- of two lists joined end to end
 pub least-append : (given others : List Pair) (id : List ℕ)
@@ -27,8 +29,6 @@ least-append (file ∷ given) others id =
     ]
 
 -- ---- of a list in which no id comes twice
-same_text : (a b : List ℕ) → bytes_eq a b ≡ true → a ≡ b
-same_text a b h = (bytes_eq-Decides a b).0 h
 
 absent : (id : List ℕ) (files : List Pair) → AllByRecursion (λ other. bytes_eq id other ≡ false) (names_of files)
     → value_at id files ≡ None
@@ -44,7 +44,7 @@ least-distinct (file ∷ files) id h =
     elim (cases_Bool (bytes_eq id file.0)) [
       | inl t ↦ cond-true (bytes_eq id file.0) (Some (lesser_of file.1 rest)) rest t
           ∙ ap (λ o. Some (lesser_of file.1 o)) (least-distinct files id h.1
-          ∙ ap (λ i. value_at i files) (same_text id file.0 t) ∙ absent file.0 files h.0)
+          ∙ ap (λ i. value_at i files) (bytes_eq-true id file.0 t) ∙ absent file.0 files h.0)
           ∙ sym (cond-true (bytes_eq id file.0) (Some file.1) (value_at id files) t)
       | inr f ↦ cond-false (bytes_eq id file.0) (Some (lesser_of file.1 rest)) rest f ∙ least-distinct files id h.1
           ∙ sym (cond-false (bytes_eq id file.0) (Some file.1) (value_at id files) f)
@@ -91,13 +91,13 @@ least-among (file ∷ given) id entry h =
     first : (least_entry given id ≡ Some entry → Contains given (id, entry)) → bytes_eq id file.0 ≡ true
         → (o : Option (List ℕ)) → least_entry given id ≡ o → Some (lesser_of file.1 o) ≡ Some entry
         → Contains (file ∷ given) (id, entry)
-    first later t None is e = here file given id entry (sym (same_text id file.0 t)) (cc)
+    first later t None is e = here file given id entry (sym (bytes_eq-true id file.0 t)) (cc)
     first later t (Some x) is e =
         elim (cases_Bool (bytes_less x file.1)) [
           | inl l ↦ let one : lesser file.1 x ≡ x = cond-true (bytes_less x file.1) x file.1 l in
               there file given (id, entry) (later (is ∙ ap Some (sym one) ∙ e))
           | inr g ↦ let one : lesser file.1 x ≡ file.1 = cond-false (bytes_less x file.1) x file.1 g in
-              here file given id entry (sym (same_text id file.0 t)) (cc)
+              here file given id entry (sym (bytes_eq-true id file.0 t)) (cc)
         ]
 
 -- no entry that was given for the id is less
@@ -132,11 +132,11 @@ least-bound (file ∷ given) id entry c =
     ]
   where
     not_below : (e : List ℕ) (o : Option (List ℕ)) → bytes_less e (lesser_of e o) ≡ false
-    not_below e None = less_itself e
+    not_below e None = bytes_less_itself e
     not_below e (Some x) =
         elim (cases_Bool (bytes_less x e)) [
           | inl l ↦ ap (bytes_less e) (cond-true (bytes_less x e) x e l) ∙ less_order.one_way x e l
-          | inr g ↦ ap (bytes_less e) (cond-false (bytes_less x e) x e g) ∙ less_itself e
+          | inr g ↦ ap (bytes_less e) (cond-false (bytes_less x e) x e g) ∙ bytes_less_itself e
         ]
 
     still : (first found : List ℕ) → bytes_less entry found ≡ false → bytes_less entry (lesser first found) ≡ false
@@ -159,7 +159,7 @@ IsLeast-from given id entry h = record {
 least-from : (given : List Pair) (id entry : List ℕ) → IsLeast given id entry → least_entry given id ≡ Some entry
 least-from given id entry h =
     let (found, is, bound) = least-bound given id entry h.among in
-    is ∙ ap Some (sym (same_bytes entry found bound (h.least found (least-among given id found is))))
+    is ∙ ap Some (sym (bytes-neither entry found bound (h.least found (least-among given id found is))))
 
 pub least-is : (given : List Pair) (id entry : List ℕ) → (least_entry given id ≡ Some entry) ↔ IsLeast given id entry
 least-is given id entry = (IsLeast-from given id entry, least-from given id entry)

@@ -1,30 +1,14 @@
 -- The lesser of two texts.
-use Rattle.std.proofs.Common.{◌≡◌, ℕ, Bool, true, false, cond, List, Option, Some, None, Ordering, is_lt, nat_cmp, refl, sym, ap, ◌∙◌, inl, inr}
+use Rattle.std.proofs.Common.{◌≡◌, ℕ, Bool, true, false, cond, List, Option, Some, None, refl, sym, ◌∙◌}
 use Rattle.std.specs.Cmp.{IsStrictWeakOrder}
-use Rattle.std.specs.Cmp.Lexicographic.{slice_cmp, nat_list_cmp_total}
-use Rattle.std.specs.Ordering.{ordering_reverse}
-use Rattle.std.specs.declared.cmp.Ordering.TheVariants.{Less, Equal, Greater}
-use Rattle.std.proofs.lemmas.Bool.{cases_Bool, both_ways, cond-true, cond-false, true_from_ne_false}
+use Rattle.std.specs.Cmp.Lexicographic.{nat_list_cmp_total}
+use Rattle.std.proofs.lemmas.Bool.{both_ways, cond-true, cond-false, true_from_ne_false}
 use Rattle.std.proofs.lemmas.List.MinMax.{ranks_by}
-use Rattle.std.proofs.lemmas.Map.Lookups.{exact_bytes}
 use Rattle.frac_keys.specs.Keys.{bytes_less}
 use Rattle.file_table.specs.Table.{lesser, lesser_of}
 
 pub less_order : IsStrictWeakOrder bytes_less
 less_order = ranks_by nat_list_cmp_total (λ (e : List ℕ). e)
-
-pub less_itself : (a : List ℕ) → bytes_less a a ≡ false
-less_itself a = elim (cases_Bool (bytes_less a a)) [ inl t ↦ less_order.one_way a a t | inr f ↦ f ]
-
--- of two texts that differ one is less
-pub same_bytes : (a b : List ℕ) → bytes_less a b ≡ false → bytes_less b a ≡ false → a ≡ b
-same_bytes a b h k = go (slice_cmp nat_cmp a b) refl
-  where
-    go : (o : Ordering) → slice_cmp nat_cmp a b ≡ o → a ≡ b
-    go Less is = absurd (both_ways (bytes_less a b) h (ap is_lt is))
-    go Equal is = exact_bytes a b is
-    go Greater is =
-        absurd (both_ways (bytes_less b a) k (ap is_lt (nat_list_cmp_total.antisymm b a ∙ ap ordering_reverse is)))
 
 lesser-assoc : (e x y : List ℕ) → lesser e (lesser x y) ≡ lesser (lesser e x) y
 lesser-assoc e x y = go (bytes_less y x) (bytes_less x e) refl refl

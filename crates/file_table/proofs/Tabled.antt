@@ -15,8 +15,8 @@ use Rattle.json_text.specs.Parts.{AreMembers, names_of}
 use Rattle.json_text.specs.Value.{IsCompact}
 use Rattle.scene_json.specs.Named.{value_at}
 use Rattle.json_text.proofs.CallerLemmas.{Value-deeper, string-or-not, object-or-not}
-use Rattle.scene_json.proofs.CallerLemmas.{tabled}
-use Rattle.elem.proofs.CallerLemmas.{object-once, quote-once}
+use Rattle.scene_json.proofs.CallerLemmas.{tabled, quote-once}
+use Rattle.elem.proofs.CallerLemmas.{object-once}
 use Rattle.file_table.specs.Picture.{IsDataUrl, HasUrl, HasData, IsPictureSize}
 use Rattle.file_table.specs.Table.{least_entry, AreLeastEntries}
 use Rattle.file_table.proofs.Pictures.{size-none}

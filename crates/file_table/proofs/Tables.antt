@@ -3,11 +3,11 @@ use Rattle.std.proofs.Common.{◌≡◌, ℕ, true, false, cond, ◌⊎◌, List
 use Rattle.std.specs.Cmp.Lexicographic.{nat_list_eq_equiv}
 use Rattle.std.specs.List.{IsDistinct}
 use Rattle.std.proofs.lemmas.Bool.{cases_Bool, both_ways, cond-true, cond-false}
-use Rattle.std.proofs.lemmas.Slice.Eq.{bytes_eq-Decides}
 use Rattle.indexmap.specs.IndexMap.{insert_entry}
 use Rattle.json_text.specs.Compact.{Member as Pair}
 use Rattle.json_text.specs.Parts.{names_of}
 use Rattle.json_text.specs.Value.{IsCompact}
+use Rattle.json_text.proofs.CallerLemmas.{bytes_eq-true}
 use Rattle.scene_json.specs.Named.{value_at, HaveRisingNames}
 use Rattle.frac_keys.specs.Keys.{bytes_less}
 use Rattle.file_table.specs.Table.{takes_place, least_entry, AreLeastEntries, EntriesNest, HaveFiles}
@@ -22,9 +22,6 @@ least-one : (old : List Pair) (id entry : List ℕ) (q : List ℕ) → HaveRisin
 least-one old id entry q rising =
     least-append old ((id, entry) ∷ []) q
     ∙ ap (λ o. lesser_either o (cond (bytes_eq q id) (Some entry) None)) (least-own old q rising)
-
-same_id : (q id : List ℕ) → bytes_eq q id ≡ true → q ≡ id
-same_id q id h = (bytes_eq-Decides q id).0 h
 
 taken : (entry : List ℕ) (o : Option (List ℕ)) → takes_place o entry ≡ true → lesser_either o (Some entry) ≡ Some entry
 taken entry None h = refl
@@ -46,7 +43,7 @@ AreLeastEntries-taken old new id entry rising still takes each =
     go q (inl t) =
         each q ∙ cond-true (bytes_eq q id) (Some entry) (value_at q old) t
         ∙ sym (taken entry (value_at id old) takes)
-        ∙ ap (λ i. lesser_either (value_at i old) (Some entry)) (sym (same_id q id t))
+        ∙ ap (λ i. lesser_either (value_at i old) (Some entry)) (sym (bytes_eq-true q id t))
         ∙ ap (lesser_either (value_at q old)) (sym (cond-true (bytes_eq q id) (Some entry) None t))
         ∙ sym (least-one old id entry q rising)
     go q (inr f) =
@@ -63,9 +60,9 @@ AreLeastEntries-kept old id entry rising stays =
     go : (q : List ℕ) → (bytes_eq q id ≡ true) ⊎ (bytes_eq q id ≡ false)
         → value_at q old ≡ least_entry (old ++ (id, entry) ∷ []) q
     go q (inl t) =
-        ap (λ i. value_at i old) (same_id q id t)
+        ap (λ i. value_at i old) (bytes_eq-true q id t)
         ∙ sym (kept entry (value_at id old) stays)
-        ∙ ap (λ i. lesser_either (value_at i old) (Some entry)) (sym (same_id q id t))
+        ∙ ap (λ i. lesser_either (value_at i old) (Some entry)) (sym (bytes_eq-true q id t))
         ∙ ap (lesser_either (value_at q old)) (sym (cond-true (bytes_eq q id) (Some entry) None t))
         ∙ sym (least-one old id entry q rising)
     go q (inr f) =

@@ -1,12 +1,14 @@
 -- The keys between two ends rise strictly from the one to the other.
-use Rattle.std.proofs.Common.{◌≡◌, ℕ, zero, suc, ◌+◌, ◌-◌, ◌/◌, ◌≤◌, true, List, [], ◌∷◌, ◌++◌, length, Option, Some, None, eqb, refl, sym, ◌∙◌, subst, length-append, ◌<◌, le_refl, arith}
-use Rattle.std.specs.List.{list_all}
+use Rattle.std.proofs.Common.{◌≡◌, ℕ, zero, suc, ◌+◌, ◌-◌, ◌/◌, ◌≤◌, true, List, [], ◌∷◌, ◌++◌, length, Option, Some, None, eqb, refl, sym, ◌∙◌, subst, length-append, ◌<◌, le_refl, arith, ap, is_lt, nat_cmp, Less}
+use Rattle.std.specs.List.{list_all, AllByRecursion}
 use Rattle.std.proofs.lemmas.Bool.{cond_both, and_from, and_parts, eqb-true, eqb-false}
 use Rattle.std.proofs.lemmas.List.Folds.{list_all-append}
-use Rattle.frac_keys.specs.Keys.{is_key}
+use Rattle.std.specs.List.Sorted.{IsStrictlySortedBy}
+use Rattle.std.specs.Cmp.Lexicographic.{slice_cmp}
+use Rattle.frac_keys.specs.Keys.{is_key, bytes_less}
 use Rattle.frac_keys.specs.Between.{key_between, keys_above, keys_below, keys_inside, keys_between}
-use Rattle.frac_keys.specs.Rising.{ends_rise, is_key_or_none, lies_between, rise_between}
-use Rattle.frac_keys.proofs.OrderLaws.{IsLess-from, bytes_less-from, IsLess-trans}
+use Rattle.frac_keys.specs.Rising.{ends_rise, is_key_or_none, lies_between, rise_between, are_rising}
+use Rattle.frac_keys.proofs.OrderLaws.{bytes_less-trans}
 use Rattle.frac_keys.proofs.BetweenLaws.{key_between-law}
 
 -- keys that rise to a key and keys that rise from it rise together
@@ -18,11 +20,11 @@ rise_between-join a b (x ∷ xs) k ys h l =
     and_from (ends_rise a (Some x)) (rise_between (Some x) b (xs ++ k ∷ ys)) p.0
     (rise_between-join (Some x) b xs k ys p.1 l)
 
-ends_rise-trans : (a : Option (List ℕ)) (k : List ℕ) (b : Option (List ℕ)) → ends_rise a (Some k) ≡ true
+pub ends_rise-trans : (a : Option (List ℕ)) (k : List ℕ) (b : Option (List ℕ)) → ends_rise a (Some k) ≡ true
     → ends_rise (Some k) b ≡ true → ends_rise a b ≡ true
 ends_rise-trans None k b h l = refl
 ends_rise-trans (Some a) k None h l = refl
-ends_rise-trans (Some a) k (Some b) h l = bytes_less-from (IsLess-trans (IsLess-from a k h) (IsLess-from k b l))
+ends_rise-trans (Some a) k (Some b) h l = bytes_less-trans a k b h l
 
 -- where keys rise from one end to another, so do the ends
 pub rise_between-ends : (a b : Option (List ℕ)) (keys : List (List ℕ)) → rise_between a b keys ≡ true
@@ -31,6 +33,28 @@ rise_between-ends a b [] h = h
 rise_between-ends a b (k ∷ keys) h =
     let p = and_parts (ends_rise a (Some k)) (rise_between (Some k) b keys) h in
     ends_rise-trans a k b p.0 (rise_between-ends (Some k) b keys p.1)
+
+-- keys that are sorted rise
+below-less : (key : List ℕ) (keys : List (List ℕ)) → AllByRecursion (λ other. slice_cmp nat_cmp key other ≡ Less) keys
+    → AllByRecursion (λ other. bytes_less key other ≡ true) keys
+below-less key [] all = tt
+below-less key (other ∷ keys) all = (ap is_lt all.0, below-less key keys all.1)
+
+sorted-between : (low : Option (List ℕ)) (keys : List (List ℕ))
+    → AllByRecursion (λ key. ends_rise low (Some key) ≡ true) keys → IsStrictlySortedBy (slice_cmp nat_cmp) keys
+    → rise_between low None keys ≡ true
+unfolding IsStrictlySortedBy
+sorted-between None [] above sorted = refl
+sorted-between (Some k) [] above sorted = refl
+sorted-between low (key ∷ keys) above sorted =
+    and_from _ _ above.0 (sorted-between (Some key) keys (below-less key keys sorted.0) sorted.1)
+
+pub sorted-rising : (keys : List (List ℕ)) → IsStrictlySortedBy (slice_cmp nat_cmp) keys → are_rising keys ≡ true
+sorted-rising keys sorted = sorted-between None keys (free keys) sorted
+  where
+    free : (keys : List (List ℕ)) → AllByRecursion (λ (key : List ℕ). ends_rise None (Some key) ≡ true) keys
+    free [] = tt
+    free (key ∷ keys) = (refl, free keys)
 
 -- and each key lies between the ends
 wider : (a : Option (List ℕ)) (k : List ℕ) (b : Option (List ℕ)) (keys : List (List ℕ)) → ends_rise a (Some k) ≡ true
@@ -61,10 +85,12 @@ pub record AreBetween (a b : Option (List ℕ)) (n : ℕ) (keys : List (List ℕ
 none : (a b : Option (List ℕ)) → ends_rise a b ≡ true → AreBetween a b 0 []
 none a b h = record { count = refl; are_keys = refl; rise = h }
 
-joined : {a b : Option (List ℕ)} {m n : ℕ} {xs : List (List ℕ)} {k : List ℕ} {ys : List (List ℕ)} (total : ℕ)
+-- keys up to a key, the key, and keys from it on
+pub AreBetween-join : {a b : Option (List ℕ)} {m n : ℕ} {xs : List (List ℕ)} {k : List ℕ} {ys : List (List ℕ)}
+    (total : ℕ)
     → m + n + 1 ≡ total → is_key k ≡ true
     → AreBetween a (Some k) m xs → AreBetween (Some k) b n ys → AreBetween a b total (xs ++ k ∷ ys)
-joined {a} {b} {m} {n} {xs} {k} {ys} total e key h l = record {
+AreBetween-join {a} {b} {m} {n} {xs} {k} {ys} total e key h l = record {
   count = length-append xs (k ∷ ys) ∙ omega (arith, h.count, l.count);
   are_keys = list_all-append is_key xs (k ∷ ys)
       ∙ and_from (list_all is_key xs) (list_all is_key (k ∷ ys)) h.are_keys
@@ -72,16 +98,17 @@ joined {a} {b} {m} {n} {xs} {k} {ys} total e key h l = record {
   rise = rise_between-join a b xs k ys h.rise l.rise;
 }
 
-open_above : (a : Option (List ℕ)) → ends_rise a None ≡ true
-open_above None = refl
-open_above (Some a) = refl
+-- every key is below an end that is absent
+pub ends_rise-none : (a : Option (List ℕ)) → ends_rise a None ≡ true
+ends_rise-none None = refl
+ends_rise-none (Some a) = refl
 
 keys_above-law : (a : Option (List ℕ)) (n : ℕ) → is_key_or_none a ≡ true → AreBetween a None n (keys_above a n)
 unfolding keys_above
-keys_above-law a zero h = none a None (open_above a)
+keys_above-law a zero h = none a None (ends_rise-none a)
 keys_above-law a (suc n) h =
-    let k = key_between-law a None h refl (open_above a) in
-    joined {xs = []} (suc n) (omega arith) k.key (none a (Some (key_between a None)) k.above)
+    let k = key_between-law a None h refl (ends_rise-none a) in
+    AreBetween-join {xs = []} (suc n) (omega arith) k.key (none a (Some (key_between a None)) k.above)
     (keys_above-law (Some (key_between a None)) n k.key)
 
 keys_below-law : (b : Option (List ℕ)) (n : ℕ) → is_key_or_none b ≡ true → AreBetween None b n (keys_below b n)
@@ -89,7 +116,7 @@ unfolding keys_below
 keys_below-law b zero h = none None b refl
 keys_below-law b (suc n) h =
     let k = key_between-law None b refl h refl in
-    joined {ys = []} (suc n) (omega arith) k.key (keys_below-law (Some (key_between None b)) n k.key)
+    AreBetween-join {ys = []} (suc n) (omega arith) k.key (keys_below-law (Some (key_between None b)) n k.key)
     (none (Some (key_between None b)) b k.below)
 
 keys_inside-law : (depth : ℕ) (a b : Option (List ℕ)) (n : ℕ) → n ≤ depth → is_key_or_none a ≡ true
@@ -106,7 +133,7 @@ keys_inside-law (suc depth) a b n most h l e =
     (λ t. subst (λ m. AreBetween a b m []) (sym (eqb-true n 0 t)) (none a b e))
     (λ f.
     let some : 0 < n = grind (arith, eqb-false n 0 f) in
-    joined n (omega arith) k.key
+    AreBetween-join n (omega arith) k.key
     (keys_inside-law depth a c (n / 2) (omega arith) h k.key k.above)
     (keys_inside-law depth c b upper (omega arith) k.key l k.below))
 

@@ -28,7 +28,6 @@ use Rattle.index_repair.specs.Keyed.{HaveRisingKeys}
 use Rattle.elem.proofs.CallerLemmas.{IsKept, AreKept, HasText, IsEnd, with_parts, with_deleted, with_index, with_groups, with_frame, with_bound, with_container, with_start, with_end'}
 use Rattle.board_commands.specs.declared.command.Command.{Command}
 use Rattle.board_commands.specs.declared.command.Command.TheVariants as commands
-use Rattle.effects.specs.declared.refusal.Refusal.{Refusal}
 use Rattle.board_commands.specs.declared.command.Side.{Side}
 use Rattle.board_commands.specs.declared.command.Side.TheVariants.{Start, End}
 use Rattle.effects.specs.Copying.{settled_for, shown_among}
@@ -38,9 +37,9 @@ use Rattle.board_commands.specs.Limits.{IsRest, IsWithinLimits}
 use Rattle.effects.specs.Linking.{without_listing_entry, listed, unlisted, with_end, with_end_of, old_target, old_container, with_container_of, without_other_texts, with_text_alone, with_text_of, without_container_of}
 use Rattle.effects.specs.Naming.{is_among, is_some_that, apart_from}
 use Rattle.effects.specs.Placing.{with_view_key, settled_key, key_at, key_in}
-use Rattle.effects.specs.Refusals.{refusal_if, guarded}
+use Rattle.effects.specs.Refusals.{guarded}
 use Rattle.effects.specs.Settings.{is_protected, given_value, with_set_member}
-use Rattle.effects.proofs.CallerLemmas.{nests-more, free-header}
+use Rattle.effects.proofs.CallerLemmas.{nests-more, free-header, refusal_if-none}
 use Rattle.board_commands.specs.Written.{IsWrittenCommand}
 use Rattle.given_elements.proofs.PartLaws.{with_rest}
 use Rattle.given_elements.proofs.SpotLaws.{settled_key-is, key_at-is, key_in-is}
@@ -241,9 +240,6 @@ settled_for-kept [] shown all = tt
 settled_for-kept (e ∷ originals) shown all = all
 
 -- ---- each command
-unguarded : (b : Bool) (refusal : Refusal) → refusal_if b refusal ≡ None → b ≡ false
-unguarded true refusal h = cc
-unguarded false refusal h = refl
 
 pub effect-kept : (stored shown : List ElementValue) (command : Command) (e : ElementValue) → AreKept shown
     → HaveRisingKeys shown → IsWithinLimits command → IsWrittenCommand command → guarded command ≡ None → IsKept e
@@ -252,7 +248,7 @@ effect-kept stored shown (commands.Create element spot) e all rise limits writte
     with_view_key-kept shown e all kept
 effect-kept stored shown (commands.Set id name value) e all rise limits written free kept =
     chosen (bytes_eq id e.id) (with_set_member name value e) e
-    (λ _. with_set_member-kept name value e (unguarded (is_protected name) _ free) limits written kept) kept
+    (λ _. with_set_member-kept name value e (refusal_if-none (is_protected name) _ free) limits written kept) kept
 effect-kept stored shown (commands.Delete ids) e all rise limits written free kept =
     deleted_from-kept (is_among ids) e kept
 effect-kept stored shown (commands.Place id spot) e all rise limits written free kept =

@@ -8,6 +8,7 @@ use Rattle.board_base.specs.declared.stop.Stop.{Stop}
 use Rattle.board_base.specs.declared.stop.Stop.TheVariants.{Fault, Memory}
 use Rattle.frac_keys.specs.Keys.{bytes_less}
 use Rattle.frac_keys.specs.Rising.{are_rising}
+use Rattle.json_text.proofs.CallerLemmas.{Contains-map}
 use Rattle.elem.specs.ElementValue.{ElementValue}
 use Rattle.elem.specs.Order.{unstamped, has_id}
 use Rattle.elem.specs.Stamp.{stamped}
@@ -19,9 +20,9 @@ use Rattle.delta.specs.Facts.{part_ids}
 use Rattle.delta.specs.Pairs.{Pair, EntryStandsFor, pair_with, pairs_from}
 use Rattle.delta.specs.Parts.{PartStandsFor, inverse, inverses}
 use Rattle.delta.specs.declared.stamping.VersionFull.{VersionFull}
-use Rattle.delta.proofs.CallerLemmas.{entry-more, entry-none, applied-apart, Contains-map, rising-push, rising-front, earlier_less, later_greater}
+use Rattle.delta.proofs.CallerLemmas.{entry-more, entry-none, applied-apart, rising-push, rising-front, earlier_less, later_greater}
 use Rattle.history.proofs.PlanLaws.{reverse-cons}
-use Rattle.history.specs.Stacks.{OnFull, HasStepped, HasStoredIds, HaveStoredIds}
+use Rattle.history.specs.Stacks.{OnFull, HasStepped, HasStoredIds, HaveStoredIds, with_entry, redo_left}
 use Rattle.history.specs.Steps.{IsNow, IsFull, IsFullId, IsLeastFull, PartHasGiven, IsGivenByPart, IsStep, ComesOf}
 
 pub reverse-Contains : {X : Type 0} (xs : List X) (x : X) → Contains (reverse xs) x → Contains xs x
@@ -297,3 +298,18 @@ ids-taken old new e stack taken stored parts inside part among =
     either : (b : Bool) → IsSome (if b then Some e else element_of old part.id)
     either true = refl
     either false = stored parts inside part among
+
+-- ---- an entry that is noted
+pub noted-ids : (stored : List ElementValue) (entry : List Delta) (stack : List (List Delta))
+    → HasStoredIds stored entry → HaveStoredIds stored stack → HaveStoredIds stored (with_entry entry stack)
+noted-ids stored [] stack own ids parts c = ids parts c
+noted-ids stored (part ∷ more) stack own ids parts c =
+    elim (Contains-push_cases stack (part ∷ more) parts c) [
+      | inl earlier ↦ ids parts earlier
+      | inr same ↦ subst (HasStoredIds stored) same own
+    ]
+
+pub left-ids : (stored : List ElementValue) (entry : List Delta) (stack : List (List Delta))
+    → HaveStoredIds stored stack → HaveStoredIds stored (redo_left entry stack)
+left-ids stored [] stack ids parts c = ids parts c
+left-ids stored (part ∷ more) stack ids parts c = absurd (omega (arith, c.1))

@@ -1,6 +1,7 @@
 -- What a step makes of the elements that its entry stands for.
 use Rattle.std.proofs.Common.{◌≡◌, ℕ, List, true, Option, Some, None, refl, sym, ap, ◌∙◌, subst, inl, inr}
 use Rattle.std.proofs.lemmas.Option.{same_Some}
+use Rattle.json_text.proofs.CallerLemmas.{Contains-to_map}
 use Rattle.elem.specs.ElementValue.{ElementValue}
 use Rattle.elem.specs.Facts.{IsElement}
 use Rattle.elem.specs.Order.{unstamped, has_id}

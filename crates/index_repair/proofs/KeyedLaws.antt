@@ -1,6 +1,6 @@
 -- Elements whose keys are repaired: what holds of every element holds of them, and keys that rise stay.
-use Rattle.std.proofs.Common.{◌≡◌, ℕ, true, List, [], ◌∷◌, map, Option, Some, None, IfSome, refl, sym, ap, ap₂, ◌∙◌}
-use Rattle.std.specs.List.{All, list_all}
+use Rattle.std.proofs.Common.{◌≡◌, ℕ, true, List, [], ◌∷◌, map, Option, Some, None, IfSome, refl, sym, ap, ap₂, ◌∙◌, bytes_eq, false}
+use Rattle.std.specs.List.{All, list_all, AllByRecursion, IsDistinct, zip}
 use Rattle.std.proofs.lemmas.Bool.{and_from, and_parts}
 use Rattle.frac_keys.specs.Keys.{is_key}
 use Rattle.frac_keys.specs.Rising.{is_key_or_none}
@@ -12,6 +12,7 @@ use Rattle.elem.specs.Facts.{IsElement}
 use Rattle.elem.specs.Said.{HasValidTexts}
 use Rattle.elem.proofs.CallerLemmas as parts
 use Rattle.elem.proofs.CallerLemmas.{IsKept, AreKept, kept-from, kept-to}
+use Rattle.elem.specs.Order.{HaveDistinctIds}
 
 -- ---- keys
 pub kept-keys : (es : List ElementValue) → AreKept es → HaveKeysOrNone es
@@ -26,7 +27,7 @@ kept-keys (e ∷ es) all = and_from (is_key_or_none e.index) (list_all is_key_or
 with_index-kept : (e : ElementValue) (key : List ℕ) → is_key key ≡ true → IsKept e → IsKept (with_index e key)
 with_index-kept e key is kept = parts.with_index e kept (Some key) is
 
-keyed-kept : (es : List ElementValue) (keys : List (List ℕ)) → list_all is_key keys ≡ true → AreKept es
+pub keyed-kept : (es : List ElementValue) (keys : List (List ℕ)) → list_all is_key keys ≡ true → AreKept es
     → AreKept (keyed es keys)
 keyed-kept [] keys are all = tt
 keyed-kept (e ∷ es) [] are all = tt
@@ -37,6 +38,28 @@ keyed-kept (e ∷ es) (key ∷ keys) are all =
 pub repaired-kept : (es : List ElementValue) → AreKept es → AreKept (keyed es (repaired (map index_of es)))
 repaired-kept es all = keyed-kept es (repaired (map index_of es))
     (AreRepaired-from (map index_of es) (repaired (map index_of es)) refl (kept-keys es all)).new_keys all
+
+-- ---- pairs of an element and a key, and ids
+pub keyed-zip : (es : List ElementValue) (keys : List (List ℕ))
+    → map (λ (p : ElementValue × List ℕ). with_index p.0 p.1) (zip es keys) ≡ keyed es keys
+keyed-zip [] [] = refl
+keyed-zip [] (key ∷ keys) = refl
+keyed-zip (e ∷ es) [] = refl
+keyed-zip (e ∷ es) (key ∷ keys) = ap (λ fs. with_index e key ∷ fs) (keyed-zip es keys)
+
+keyed-apart : (id : List ℕ) (es : List ElementValue) (keys : List (List ℕ))
+    → AllByRecursion (λ other. bytes_eq id other ≡ false) (map (λ (e : ElementValue). e.id) es)
+    → AllByRecursion (λ other. bytes_eq id other ≡ false) (map (λ (e : ElementValue). e.id) (keyed es keys))
+keyed-apart id [] keys apart = tt
+keyed-apart id (e ∷ es) [] apart = tt
+keyed-apart id (e ∷ es) (key ∷ keys) apart = (apart.0, keyed-apart id es keys apart.1)
+
+pub keyed-distinct : (es : List ElementValue) (keys : List (List ℕ)) → HaveDistinctIds es
+    → HaveDistinctIds (keyed es keys)
+unfolding IsDistinct
+keyed-distinct [] keys distinct = tt
+keyed-distinct (e ∷ es) [] distinct = tt
+keyed-distinct (e ∷ es) (key ∷ keys) distinct = (keyed-apart e.id es keys distinct.0, keyed-distinct es keys distinct.1)
 
 -- ---- as laws say it
 pub keyed-elements : (es : List ElementValue) → All (λ e. IsElement e × HasValidTexts e) es

@@ -1,30 +1,13 @@
 -- What is kept, and what the repaired keys are.
-use Rattle.std.proofs.Common.{◌≡◌, ℕ, zero, suc, ◌+◌, ◌<◌, get_or, Bool, true, false, List, [], ◌∷◌, ◌++◌, length, map, Option, Some, None, replicate, refl, sym, ◌∙◌, ap, ap₂, subst, length-append, append-nil, arith}
+use Rattle.std.proofs.Common.{◌≡◌, ℕ, zero, suc, ◌+◌, ◌<◌, get_or, Bool, true, false, List, [], ◌∷◌, ◌++◌, length, map, Option, Some, None, replicate, refl, sym, ap, ap₂, subst, append-nil, arith}
 use Rattle.std.specs.Prelude.{slice_get}
 use Rattle.std.specs.List.{list_all, IsAllAdjacentAnswer}
 use Rattle.std.proofs.lemmas.Bool.{cond_both, and_from, and_parts, and_left, and_right}
-use Rattle.std.proofs.lemmas.List.Folds.{list_all-append}
 use Rattle.frac_keys.specs.Keys.{is_key, bytes_less}
 use Rattle.frac_keys.specs.Rising.{ends_rise, is_key_or_none, rise_between, are_rising}
 use Rattle.frac_keys.specs.Between.{keys_above, keys_below, keys_inside, keys_between}
-use Rattle.frac_keys.proofs.CallerLemmas.{AreBetween, keys_between-law, rise_between-join, rise_between-ends}
+use Rattle.frac_keys.proofs.CallerLemmas.{AreBetween, keys_between-law, rise_between-ends, AreBetween-join}
 use Rattle.index_repair.specs.Repair.{kept_after, kept, IsAboveKept, AreKept, filled_after, repaired_below, repaired, is_below, are_below, KeepsAll}
-
-open_above : (a : Option (List ℕ)) → ends_rise a None ≡ true
-open_above None = refl
-open_above (Some a) = refl
-
--- keys up to a key, the key, and keys from it on
-joined : {a b : Option (List ℕ)} {m n : ℕ} {xs : List (List ℕ)} {k : List ℕ} {ys : List (List ℕ)} (total : ℕ)
-    → m + n + 1 ≡ total → is_key k ≡ true
-    → AreBetween a (Some k) m xs → AreBetween (Some k) b n ys → AreBetween a b total (xs ++ k ∷ ys)
-joined {a} {b} {m} {n} {xs} {k} {ys} total e key h l = record {
-  count = length-append xs (k ∷ ys) ∙ omega (arith, h.count, l.count);
-  are_keys = list_all-append is_key xs (k ∷ ys)
-      ∙ and_from (list_all is_key xs) (list_all is_key (k ∷ ys)) h.are_keys
-      (and_from (is_key k) (list_all is_key ys) key l.are_keys);
-  rise = rise_between-join a b xs k ys h.rise l.rise;
-}
 
 -- a key that is kept before others that are below an end is below it
 rest-below : (above : Option (List ℕ)) (key : Option (List ℕ)) (keys : List (Option (List ℕ)))
@@ -47,7 +30,8 @@ filled-law above low run (Some key ∷ keys) top rise under h l =
     let u = and_parts (ends_rise (Some key) above) (are_below above keys) under in
     cond_both (ends_rise low (Some key)) (Some key ∷ kept_after (Some key) keys) (None ∷ kept_after low keys)
     (λ kept. AreBetween low above (run + suc (length keys)) (filled_after above low run kept))
-    (λ greater. joined (run + suc (length keys)) (omega arith) p.0 (keys_between-law low (Some key) run h p.0 greater)
+    (λ greater. AreBetween-join (run + suc (length keys)) (omega arith) p.0
+    (keys_between-law low (Some key) run h p.0 greater)
     (filled-law above (Some key) 0 keys top u.0 u.1 p.0 p.1))
     (λ _. subst (λ n. AreBetween low above n (filled_after above low (suc run) (kept_after low keys))) (omega arith)
     (filled-law above low (suc run) keys top rise u.1 h p.1))

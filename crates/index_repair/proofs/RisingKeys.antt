@@ -5,6 +5,7 @@ use Rattle.std.proofs.lemmas.Bool.{and_from, and_parts, both_ways}
 use Rattle.std.proofs.lemmas.List.{drop_all, drop_more}
 use Rattle.frac_keys.specs.Keys.{is_key}
 use Rattle.frac_keys.specs.Rising.{ends_rise, is_key_or_none, rise_between}
+use Rattle.frac_keys.proofs.CallerLemmas.{ends_rise-none}
 use Rattle.elem.specs.ElementValue.{ElementValue}
 use Rattle.index_repair.specs.Keyed.{index_of, HaveKeysOrNone, HaveRisingKeys}
 
@@ -64,14 +65,10 @@ module _ (es : List ElementValue) (low : Option (List ℕ)) (i : ℕ) (e : Eleme
   pub risen-absent : e.index ≡ None → HaveRisingKeys es → ⊥
   risen-absent is h = let (keys, each, rise) = here.back h in no_key e (drop (i + 1) es) keys is each
 
-nothing_above : (low : Option (List ℕ)) → ends_rise low None ≡ true
-nothing_above None = refl
-nothing_above (Some key) = refl
-
 pub risen-all : (es : List ElementValue) (low : Option (List ℕ)) (i : ℕ) → length es ≤ i
     → HaveRisenTo es low (drop i es) → HaveRisingKeys es
 risen-all es low i end' so_far =
-    (subst (HaveRisenTo es low) (drop_all i es end') so_far).rising [] refl (nothing_above low)
+    (subst (HaveRisenTo es low) (drop_all i es end') so_far).rising [] refl (ends_rise-none low)
 
 pub risen-keys : (es : List ElementValue) (low : Option (List ℕ)) (i : ℕ) → length es ≤ i
     → HaveRisenTo es low (drop i es) → HaveKeysOrNone es

@@ -1,24 +1,11 @@
 -- Lines that are answered, stretch after stretch.
-use Rattle.std.proofs.Common.{◌≡◌, ℕ, ◌+◌, ◌≤◌, List, [], ◌∷◌, ◌++◌, length, take, Option, None, Some, Result, Ok, Err, OnOk, OnErr, refl, sym, ap, ◌∙◌, subst, inl, inr, arith, append_assoc, append-nil, length-append}
+use Rattle.std.proofs.Common.{◌≡◌, ℕ, ◌+◌, ◌≤◌, List, [], ◌∷◌, ◌++◌, length, take, Option, None, Some, refl, sym, ap, ◌∙◌, subst, inl, inr, arith, append_assoc, append-nil, length-append}
 use Rattle.std.specs.Option.{option_map}
 use Rattle.std.proofs.Math.Seq.{take-append-add}
 use Rattle.std.proofs.lemmas.List.{take-append-le}
 use Rattle.std.proofs.lemmas.Grind.{flat_map-append}
 use Rattle.board_ends.specs.Ends.{SinkEnd, Took}
 use Rattle.intake.specs.Answering.{output_line, output_of, AreAnswered, Lead, WereAnswered, WereAnsweredInPart}
-
--- ---- what holds of an answer
-pub ok-then : {T E P Q : Type 0} (r : Result T E) → (P → Q) → OnOk r P → OnOk r Q
-ok-then (Ok x) f p = f p
-ok-then (Err e) f p = tt
-
-pub err-then : {T E P Q : Type 0} (r : Result T E) → (P → Q) → OnErr r P → OnErr r Q
-err-then (Ok x) f p = tt
-err-then (Err e) f p = f p
-
-pub err-made : {T E P : Type 0} (r : Result T E) → P → OnErr r P
-err-made (Ok x) p = tt
-err-made (Err e) p = p
 
 -- ---- what a sink took
 took_none : (held : Option (List ℕ)) → held ≡ option_map (λ bytes. bytes ++ []) held

@@ -1,5 +1,5 @@
 -- White space, and what is left behind it.
-use Rattle.std.proofs.Common.{◌≡◌, inl, inr, ℕ, ◌+◌, ◌<◌, ◌≤◌, List, [], ◌∷◌, ◌++◌, true, false, refl, sym, ap, ◌∙◌, length, arith}
+use Rattle.std.proofs.Common.{◌≡◌, inl, inr, ℕ, ◌+◌, ◌<◌, List, [], ◌∷◌, ◌++◌, true, false, refl, sym, ap, ◌∙◌, length, arith}
 use Rattle.std.specs.List.{prefix_len}
 use Rattle.std.proofs.lemmas.Bool.{both_ways, false_from_ne_true, and_parts, cases_Bool}
 use Rattle.std.proofs.lemmas.List.Folds.{list_all-append}
@@ -29,21 +29,6 @@ stands-begun bytes text rest s = false_from_ne_true (is_blank bytes) (λ all.
     let first : is_blank (head.first ∷ head.more) ≡ true = ap is_blank (sym head.parts ∙ s.reads.spells) ∙ value in
     both_ways (is_space head.first) (begins-no-space head.first head.begins)
     (and_parts (is_space head.first) (is_blank head.more) first).0)
-
--- white space alone is left where its end is that of all bytes, and more where it isn't
-pub blank-all : (bytes : List ℕ) → length bytes ≤ prefix_len is_space bytes → is_blank bytes ≡ true
-blank-all [] ends = refl
-blank-all (b ∷ bytes) ends = elim (cases_Bool (is_space b)) [
-  | inl e ↦ rw e (blank-all bytes (let less = rw e at ends in omega (arith, less)))
-  | inr e ↦ let less = rw e at ends in absurd (omega (arith, less))
-]
-
-pub blank-not : (bytes : List ℕ) → prefix_len is_space bytes < length bytes → is_blank bytes ≡ false
-blank-not [] less = absurd (omega (arith, less))
-blank-not (b ∷ bytes) less = elim (cases_Bool (is_space b)) [
-  | inl e ↦ rw e (blank-not bytes (let more = rw e at less in omega (arith, more)))
-  | inr e ↦ rw e refl
-]
 
 -- the first further byte stands where it stood, whatever follows
 pub first-more : (xs ys : List ℕ) → prefix_len is_space xs < length xs

@@ -10,11 +10,11 @@ use Rattle.json_reader.specs.Faults.{IsFirstFault}
 use Rattle.json_reader.specs.Feeding.{Feeding, IsAt, behind_space}
 use Rattle.json_reader.specs.declared.fault.JsonFault.{JsonFault}
 use Rattle.json_reader.specs.declared.fault.JsonFault.TheVariants.{Syntax}
-use Rattle.json_text.proofs.CallerLemmas.{prefix-run}
+use Rattle.json_text.proofs.CallerLemmas.{prefix-run, run-more}
 use Rattle.json_reader.proofs.CallerLemmas.{behind-blank, blank-behind}
 use Rattle.intake.specs.declared.reading.Stopped.{Stopped}
 use Rattle.intake.specs.Texts.{Reading, TextsLead, HasReadTo, HasTexts, HasFaultBehind, HasRefusedBehind, HasExtraBehind, IsStopped, AreRead, IsLed, StandsIn}
-use Rattle.intake.proofs.Blanks.{blank-more, blank-both, stands-begun, blank-not, first-more}
+use Rattle.intake.proofs.Blanks.{blank-more, blank-both, stands-begun, first-more}
 
 -- A value stands behind texts that lead up to it.
 pub TextsLead-more : (bytes rest next : List ℕ) (texts : List (List ℕ)) (text : List ℕ) → TextsLead bytes texts rest
@@ -60,7 +60,7 @@ module _ {F : Type 0} (stream left : List ℕ) (feed : Feeding) (reader : Readin
           start = l.start;
           behind = read_to more;
           full = full;
-          begun = blank-not (drop l.start (stream ++ more)) (omega (
+          begun = run-more (drop l.start (stream ++ more)) (omega (
             arith,
             first,
             less,

@@ -1,6 +1,6 @@
 -- The lemmas that crates above cite; nothing else of this folder is cited there.
-pub use Rattle.json_text.proofs.Strings.{four-hex, heads-differ, hex-plain, pieces-once, plain-bare, plain-quote}
-pub use Rattle.json_text.proofs.Strings.{plain-slash, quoted-bare, utf8-Quotes}
+pub use Rattle.json_text.proofs.Strings.{ascii-utf8, four-hex, heads-differ, hex-plain, pieces-once, plain-bare}
+pub use Rattle.json_text.proofs.Strings.{plain-quote, plain-slash, quoted-bare, utf8-Quotes}
 pub use Rattle.json_text.proofs.Reading.{Blank, Front, Head, Stands-once, Stops, append-none, begins-no-space}
 pub use Rattle.json_text.proofs.Reading.{begins_value, decimal-number, first-same, head-apart, is_part_of_literal}
 pub use Rattle.json_text.proofs.Reading.{list_all-each, literal-plain, number, number-Head, regroup-last, regroup-next}
@@ -19,3 +19,5 @@ pub use Rattle.json_text.proofs.Forms.{nests-or-not, object-or-not, object-start
 pub use Rattle.json_text.proofs.Forms.{starts-same, string-or-not}
 pub use Rattle.json_text.proofs.FirstLaws.{Contains-first_texts, IsDistinct-filter, IsDistinct-first_texts}
 pub use Rattle.json_text.proofs.FirstLaws.{any-first_texts, first_texts-distinct}
+pub use Rattle.json_text.proofs.Lists.{Contains-map, Contains-to_map, drop-once, none-is, take-next, taken-next}
+pub use Rattle.json_text.proofs.Blanks.{Runs-either, blank-run, run-blank, run-more}

@@ -6,9 +6,9 @@ use Rattle.std.proofs.lemmas.Bool.{not-true, not_from_false}
 use Rattle.std.proofs.lemmas.List.{append-nil}
 use Rattle.std.proofs.lemmas.List.Elements.{filter_passes, filter-append, recursion_from_All}
 use Rattle.std.proofs.lemmas.Map.Views.{any-filter_same, Contains-from_any, list_any-from_Contains}
-use Rattle.std.proofs.lemmas.Slice.Eq.{bytes_eq-Decides}
 use Rattle.indexmap.specs.IndexSet.{insert_key}
 use Rattle.json_text.specs.FirstOccurrences.{is_other, first_texts}
+use Rattle.json_text.proofs.Collapsed.{bytes_eq-true}
 
 -- ---- one text more
 with_one_more : (text other : List ℕ) (texts : List (List ℕ)) (among same : Bool)
@@ -79,8 +79,6 @@ IsDistinct-first_texts (text ∷ texts) =
     )
 
 -- ---- they are the texts
-same_texts : (x y : List ℕ) → bytes_eq x y ≡ true → x ≡ y
-same_texts x y h = (bytes_eq-Decides x y).0 h
 
 either_way : (same among : Bool) → (same || (not same && among)) ≡ (same || among)
 either_way true among = refl
@@ -92,7 +90,7 @@ any-first_texts [] text = refl
 any-first_texts (first ∷ texts) text =
     let same = bytes_eq text first in
     ap (λ b. same || b) (any-filter_same (bytes_eq text) (is_other bytes_eq first) (not same)
-    (λ k h. ap (λ x. not (bytes_eq first x)) (sym (same_texts text k h))
+    (λ k h. ap (λ x. not (bytes_eq first x)) (sym (bytes_eq-true text k h))
     ∙ ap not (nat_list_eq_equiv.symm first text)) (first_texts texts))
     ∙ ap (λ b. same || (not same && b)) (any-first_texts texts text)
     ∙ either_way same (list_any (bytes_eq text) texts)
@@ -100,9 +98,9 @@ any-first_texts (first ∷ texts) text =
 pub Contains-first_texts : (texts : List (List ℕ)) (text : List ℕ) → Contains (first_texts texts) text
     ↔ Contains texts text
 Contains-first_texts texts text = (
-  λ c. Contains-from_any same_texts text texts (sym (any-first_texts texts text)
+  λ c. Contains-from_any bytes_eq-true text texts (sym (any-first_texts texts text)
       ∙ list_any-from_Contains nat_list_eq_equiv text (first_texts texts) c),
-  λ c. Contains-from_any same_texts text (first_texts texts) (any-first_texts texts text
+  λ c. Contains-from_any bytes_eq-true text (first_texts texts) (any-first_texts texts text
       ∙ list_any-from_Contains nat_list_eq_equiv text texts c),
 )
 

@@ -9,4 +9,6 @@ pub mod Collapsed
 pub mod CompactLaws
 pub mod Forms
 pub mod FirstLaws
+pub mod Lists
+pub mod Blanks
 pub mod CallerLemmas

@@ -1,15 +1,26 @@
 -- Strings: what their pieces stand for is UTF-8, and each text of UTF-8 has a quote made of pieces.
-use Rattle.std.proofs.Common.{◌≡◌, ◌≢◌, ◌<◌, ℕ, List, [], ◌∷◌, ◌++◌, true, ◌&&◌, refl, ap, ◌∙◌, eqb, arith, map, flat_map, IsUtf8, encode_utf8_all, append_assoc, append-nil, one-add, take, drop, take_all, drop_of_length-le, position, None, false, ◌+◌, add-one, get_or, length, drop-cons, Some}
-use Rattle.std.proofs.lemmas.Bool.{eqb-false}
+use Rattle.std.proofs.Common.{◌≡◌, ◌≢◌, ◌<◌, ℕ, List, [], ◌∷◌, ◌++◌, true, ◌&&◌, refl, ap, ◌∙◌, eqb, arith, map, flat_map, IsUtf8, encode_utf8_all, append_assoc, append-nil, one-add, take, drop, take_all, drop_of_length-le, position, None, false, ◌+◌, add-one, get_or, length, drop-cons, Some, zero, suc}
+use Rattle.std.proofs.lemmas.Bool.{eqb-false, and_parts, ltb-true}
 use Rattle.std.proofs.lemmas.Bool.Decides.{nat_tests}
-use Rattle.std.proofs.lemmas.Str.{encode_ascii, encode_same}
+use Rattle.std.proofs.lemmas.Str.{encode_ascii, encode_same, IsUtf8-from_ascii}
 use Rattle.std.proofs.lemmas.List.Concat.{flat_map-append}
 use Rattle.std.specs.Char.{IsScalar, encode_utf8}
 use Rattle.std.specs.List.{AllByRecursion, list_all, position_or_len}
 use lib.Utf8.{scalar, scalars}
+use Rattle.std.specs.Prelude.{nat_lt}
+use Rattle.std.specs.Str.{IsAscii}
 use Rattle.json_text.specs.Characters.{hex_value, is_hex, is_plain, needs_escape, quote, quoted_byte}
 use Rattle.json_text.specs.Tree.{Piece, bare, letter, unit, IsPiece, piece_spelling, string_spelling}
 use Rattle.json_text.specs.Compact.{piece_value, is_high, is_low, paired, lone, characters, content}
+
+-- a text of ASCII alone
+ascii-bytes : (text : List ℕ) → list_all (λ b. nat_lt b 128) text ≡ true → IsAscii text
+ascii-bytes [] h i = omega arith
+ascii-bytes (b ∷ bs) h zero = ltb-true b 128 (and_parts _ _ h).0
+ascii-bytes (b ∷ bs) h (suc i) = ascii-bytes bs (and_parts _ _ h).1 i
+
+pub ascii-utf8 : (text : List ℕ) → list_all (λ b. nat_lt b 128) text ≡ true → IsUtf8 text
+ascii-utf8 text h = IsUtf8-from_ascii text (ascii-bytes text h)
 
 -- a pair of surrogates is a character
 pub paired-scalar : (u v : ℕ) → (is_high u && is_low v) ≡ true → scalar (paired u v) ≡ true

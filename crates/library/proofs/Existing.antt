@@ -7,18 +7,19 @@ use Rattle.json_text.specs.Value.{IsCompact}
 use Rattle.json_text.proofs.CallerLemmas.{Value-deeper, object-or-not}
 use Rattle.scene_json.specs.Named.{value_at}
 use Rattle.elem.specs.Forms.{IsId, IsObject, IsTextOrNull}
-use Rattle.elem_read.proofs.CallerLemmas.{Decided, fits-in, read-or-faulty}
+use Rattle.elem_read.proofs.CallerLemmas.{Decided, fits-in, read-or-faulty, id-or-not, text_or_null-or-not}
 use Rattle.elem.specs.ElementValue.{ElementValue}
+use Rattle.scene_file.proofs.CallerLemmas.{is-text}
 use Rattle.clips.specs.Placed.{elements_in, first_repeat, AreReadFrom}
 use Rattle.clips.specs.declared.placed.Placed.{Placed}
-use Rattle.clips.proofs.CallerLemmas.{is-text, placed-of}
+use Rattle.clips.proofs.CallerLemmas.{placed-of}
 use Rattle.library.specs.Reading.{AreElementsOf, AreItemsIn, IsArray, IsElementsFault, IsFirst, IsFirstFaultyItem, IsItemFault, IsItemIn, IsItemOf, IsLibFault, IsLibraryOf, IsStatus, IsTime}
 use Rattle.library.specs.declared.fault.ItemFault.{ItemFault}
 use Rattle.library.specs.declared.fault.ItemFault.TheVariants as item
 use Rattle.library.specs.declared.fault.LibFault.{LibFault}
 use Rattle.library.specs.declared.fault.LibFault.TheVariants as library
 use Rattle.library.specs.declared.item.Item.{Item}
-use Rattle.library.proofs.ItemForms.{array_of-or-not, id-or-not, status-or-not, text_or_null-or-not, time-or-not}
+use Rattle.library.proofs.ItemForms.{array_of-or-not, status-or-not, time-or-not}
 use Rattle.library.proofs.ItemOnce.{first-among, first-created, first-elements, first-id, first-name, first-status, members-fault}
 
 -- ---- elements

@@ -1,20 +1,18 @@
 -- Items that are filed under their ids, in order.
-use Rattle.std.proofs.Common.{◌≡◌, ℕ, Bool, true, false, cond, List, [], ◌∷◌, Option, Some, None, bytes_eq, is_lt, nat_cmp, refl, sym, ap, ap₂, ◌∙◌, subst}
+use Rattle.std.proofs.Common.{◌≡◌, ℕ, Bool, true, false, cond, List, [], ◌∷◌, Option, Some, None, bytes_eq, nat_cmp, refl, sym, ap, ap₂, ◌∙◌, subst}
 use Rattle.std.specs.BTreeMap.{insert_entry, is_at}
 use Rattle.std.specs.Cmp.Lexicographic.{nat_list_eq_equiv, slice_cmp}
-use Rattle.std.specs.List.{AllByRecursion}
 use Rattle.std.specs.List.Sorted.{IsStrictlySortedBy}
 use Rattle.std.specs.Map.{keys_of, set_value}
 use Rattle.std.specs.Option.{option_map, option_map_or}
 use Rattle.std.specs.Ordering.{match_ordering}
 use Rattle.std.specs.declared.cmp.Ordering.TheVariants.{Less, Equal, Greater}
-use Rattle.std.proofs.lemmas.Bool.{and_from}
 use Rattle.std.proofs.lemmas.Map.Text.{is_eq-slice_cmp}
 use Rattle.std.proofs.lemmas.Option.{none-some, same_Some}
 use Rattle.json_text.proofs.CallerLemmas.{bytes_eq-true}
 use Rattle.scene_json.proofs.CallerLemmas.{bytes_eq-tied}
-use Rattle.frac_keys.specs.Keys.{bytes_less}
-use Rattle.frac_keys.specs.Rising.{ends_rise, rise_between, are_rising}
+use Rattle.frac_keys.specs.Rising.{are_rising}
+use Rattle.frac_keys.proofs.CallerLemmas.{sorted-rising}
 use Rattle.library.specs.Best.{ids_of, is_better, is_put, item_of, HasPut}
 use Rattle.library.specs.Filed.{filed, items_in, AreFiled, Entry, IsFiled}
 use Rattle.library.specs.declared.item.Item.{Item}
@@ -45,32 +43,13 @@ keys-are : (entries : List Entry) → AreFiled entries → keys_of entries ≡ i
 keys-are [] are = refl
 keys-are (e ∷ entries) are = ap₂ (λ k ks. k ∷ ks) are.0 (keys-are entries are.1)
 
-below-less : (key : List ℕ) (keys : List (List ℕ)) → AllByRecursion (λ y. slice_cmp nat_cmp key y ≡ Less) keys
-    → AllByRecursion (λ y. bytes_less key y ≡ true) keys
-below-less key [] all = tt
-below-less key (y ∷ keys) all = (ap is_lt all.0, below-less key keys all.1)
-
--- keys in order rise
-keys-rise : (low : Option (List ℕ)) (keys : List (List ℕ))
-    → AllByRecursion (λ key. ends_rise low (Some key) ≡ true) keys → IsStrictlySortedBy (slice_cmp nat_cmp) keys
-    → rise_between low None keys ≡ true
-unfolding IsStrictlySortedBy
-keys-rise None [] above sorted = refl
-keys-rise (Some k) [] above sorted = refl
-keys-rise low (key ∷ keys) above sorted =
-    and_from _ _ above.0 (keys-rise (Some key) keys (below-less key keys sorted.0) sorted.1)
-
-free : (keys : List (List ℕ)) → AllByRecursion (λ (key : List ℕ). true ≡ true) keys
-free [] = tt
-free (key ∷ keys) = (refl, free keys)
-
 -- entries in order are filed
 pub filed-ordered : (entries : List Entry) → AreFiled entries → IsStrictlySortedBy (slice_cmp nat_cmp) (keys_of entries)
     → IsFiled entries
 filed-ordered entries are sorted = record {
   under = are;
   rise = subst (λ ks. are_rising ks ≡ true) (keys-are entries are)
-      (keys-rise None (keys_of entries) (free (keys_of entries)) sorted);
+      (sorted-rising (keys_of entries) sorted);
 }
 
 -- ---- one item more under its id, or in place of the one there

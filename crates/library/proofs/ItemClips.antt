@@ -7,12 +7,12 @@ use Rattle.std.proofs.lemmas.Map.Made.{IsDistinct-from_count}
 use Rattle.json_text.specs.Characters.{quote}
 use Rattle.json_text.specs.Compact.{array_text}
 use Rattle.json_text.specs.Tree.{null_word}
-use Rattle.json_text.proofs.CallerLemmas.{Value-deeper, quote-compact}
+use Rattle.json_text.proofs.CallerLemmas.{Value-deeper, quote-compact, ascii-utf8}
 use Rattle.elem.specs.ElementValue.{ElementValue}
 use Rattle.elem.specs.Order.{HaveDistinctIds}
 use Rattle.elem.specs.Texts.{element_text}
-use Rattle.elem.proofs.CallerLemmas.{literal}
 use Rattle.scene_file.specs.Reading.{HasItems}
+use Rattle.scene_file.proofs.CallerLemmas.{array-no-null}
 use Rattle.clips.specs.Clips.{live_in, IsClipOf}
 use Rattle.clips.specs.Placed.{elements_in}
 use Rattle.clips.specs.declared.placed.Placed.{Placed}
@@ -49,9 +49,6 @@ distinct-live (p ∷ placed) d = by (not p.element.deleted) (distinct-live place
     by false later = later
 
 -- ---- the clip
-array-no-null : (texts : List (List ℕ)) → bytes_eq (array_text texts) null_word ≡ false
-unfolding array_text
-array-no-null texts = refl
 
 items-given : (texts : List (List ℕ)) → HasItems (Some (array_text texts)) texts
     → HasItems (cond (bytes_eq (array_text texts) null_word) None (Some (array_text texts))) texts
@@ -72,16 +69,16 @@ item-clip item whole =
       members = members;
       object = record {
         are_members = record {
-          named = (literal (codes "type") refl, (literal (codes "elements") refl, tt));
+          named = (ascii-utf8 (codes "type") refl, (ascii-utf8 (codes "elements") refl, tt));
           valued = (
-            quote-compact 127 (codes "excalidraw/clipboard") (literal (codes "excalidraw/clipboard") refl),
+            quote-compact 127 (codes "excalidraw/clipboard") (ascii-utf8 (codes "excalidraw/clipboard") refl),
             (Value-deeper (lit≤ tt) (elements-compact item.elements sound.whole), tt),
           );
           distinct = IsDistinct-from_count nat_list_eq_equiv _ refl;
         };
         spelled = refl;
       };
-      kind = (literal (codes "excalidraw/clipboard") refl, refl);
+      kind = (ascii-utf8 (codes "excalidraw/clipboard") refl, refl);
       values = texts;
       items = items-given texts (array.0, refl);
       files = refl;

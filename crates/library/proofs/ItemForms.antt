@@ -1,24 +1,24 @@
 -- What an item's members say is one thing, and it is decided whether they say it.
-use Rattle.std.proofs.Common.{◌≡◌, ◌⊎◌, inl, inr, ℕ, List, [], ◌∷◌, Bool, true, false, Option, Some, None, bytes_eq, codes, decimal, refl, sym, ap, ◌∙◌, arith, lit<}
-use Rattle.std.proofs.lemmas.Bool.{both_ways, cases_Bool}
+use Rattle.std.proofs.Common.{◌≡◌, ◌⊎◌, inl, inr, ℕ, List, [], Bool, true, false, Option, Some, None, bytes_eq, codes, decimal, refl, sym, ap, ◌∙◌, arith, lit<}
+use Rattle.std.proofs.lemmas.Bool.{both_ways}
 use Rattle.std.proofs.lemmas.Option.{same_Some}
 use Rattle.json_text.specs.Characters.{quote}
 use Rattle.json_text.specs.Compact.{array_text}
 use Rattle.json_text.specs.Tree.{null_word}
-use Rattle.json_text.proofs.CallerLemmas.{array-or-not, bytes_eq-same, bytes_eq-true}
+use Rattle.json_text.proofs.CallerLemmas.{array-or-not, bytes_eq-same, ascii-utf8}
 use Rattle.scene_json.proofs.CallerLemmas.{digit_of_decimal}
-use Rattle.elem.specs.Forms.{IsId, IsNull, IsText, IsTextOrNull, IsWholeNumber}
-use Rattle.elem.proofs.CallerLemmas.{array-once, literal, null-no-text, text-once, whole-once}
-use Rattle.elem_read.proofs.CallerLemmas.{Decided, Fits, text-or-not, whole-or-not}
-use Rattle.clips.proofs.CallerLemmas.{is-text}
+use Rattle.elem.specs.Forms.{IsNull, IsText, IsWholeNumber}
+use Rattle.elem.proofs.CallerLemmas.{array-once, null-no-text, text-once, whole-once}
+use Rattle.elem_read.proofs.CallerLemmas.{Decided, Fits, whole-or-not, null-or-not}
+use Rattle.scene_file.proofs.CallerLemmas.{is-text}
 use Rattle.library.specs.Items.{status_word}
 use Rattle.library.specs.Reading.{IsArray, IsStatus, IsTime}
 
 -- ---- one thing alone
 word-text : (found : Option (List ℕ)) (published : Bool) → found ≡ Some (quote (status_word published))
     → IsText found (status_word published)
-word-text found true e = (literal (codes "published") refl, e)
-word-text found false e = (literal (codes "unpublished") refl, e)
+word-text found true e = (ascii-utf8 (codes "published") refl, e)
+word-text found false e = (ascii-utf8 (codes "unpublished") refl, e)
 
 no-both : (found : Option (List ℕ)) → found ≡ Some (quote (status_word true)) → IsStatus found false → ⊥
 no-both found e (inl null) = null-no-text found (status_word true) null (word-text found true e)
@@ -49,38 +49,12 @@ time-once found a b (inl one) (inr two) = absurd (null-no-whole found b one.0 tw
 time-once found a b (inr one) (inl two) = absurd (null-no-whole found a two.0 one)
 time-once found a b (inr one) (inr two) = whole-once found a b one two
 
-pub text_or_null-once : (found : Option (List ℕ)) (a b : Option (List ℕ)) → IsTextOrNull found a → IsTextOrNull found b
-    → a ≡ b
-text_or_null-once found None None one two = refl
-text_or_null-once found None (Some b) one two = absurd (null-no-text found b one two)
-text_or_null-once found (Some a) None one two = absurd (null-no-text found a two one)
-text_or_null-once found (Some a) (Some b) one two = ap Some (text-once found a b one two)
-
 pub array_of-once : (found : Option (List ℕ)) (values others : List (List ℕ)) → IsArray found values
     → IsArray found others → values ≡ others
 array_of-once found values others one two =
     array-once values others one.0 two.0 (same_Some (array_text values) (array_text others) (sym one.1 ∙ two.1))
 
 -- ---- it is decided
-pub id-or-not : (found : Option (List ℕ)) → Fits found → Decided (IsId found)
-id-or-not found fits = by (text-or-not found fits)
-  where
-    by : Decided (IsText found) → Decided (IsId found)
-    by (inl ([], is)) = inr (λ id h. h.1 (text-once found id [] h.0 is))
-    by (inl (b ∷ bs, is)) = inl (b ∷ bs, (is, λ e. cc))
-    by (inr none) = inr (λ id h. none id h.0)
-
-null-or-not : (found : Option (List ℕ)) → IsNull found ⊎ (IsNull found → ⊥)
-null-or-not None = inl (inl refl)
-null-or-not (Some v) = elim (cases_Bool (bytes_eq v null_word)) [
-  | inl e ↦ inl (inr (ap Some (bytes_eq-true v null_word e)))
-  | inr e ↦ inr (λ null. by e null)
-]
-  where
-    by : bytes_eq v null_word ≡ false → IsNull (Some v) → ⊥
-    by e (inl none) = cc
-    by e (inr null) = both_ways (bytes_eq v null_word) e (ap (λ x. bytes_eq x null_word) (same_Some v null_word null)
-        ∙ bytes_eq-same null_word)
 
 -- nothing else says whether an item is published
 pub no-status : (found : Option (List ℕ)) → (found ≡ Some (quote (status_word true)) → ⊥) → (IsNull found → ⊥)
@@ -111,19 +85,6 @@ time-or-not found fits = by (null-or-not found) (whole-or-not found)
     by : IsNull found ⊎ (IsNull found → ⊥) → Decided (IsWholeNumber found) → Decided (IsTime found)
     by (inl null) whole = inl (0, inl (null, refl))
     by (inr none) (inl (n, is)) = inl (n, inr is)
-    by (inr none) (inr other) = inr (neither none other)
-
-pub text_or_null-or-not : (found : Option (List ℕ)) → Fits found → Decided (IsTextOrNull found)
-text_or_null-or-not found fits = by (text-or-not found fits) (null-or-not found)
-  where
-    neither : ((t : List ℕ) → IsText found t → ⊥) → (IsNull found → ⊥) → (o : Option (List ℕ)) → IsTextOrNull found o
-        → ⊥
-    neither none other None is = other is
-    neither none other (Some t) is = none t is
-
-    by : Decided (IsText found) → IsNull found ⊎ (IsNull found → ⊥) → Decided (IsTextOrNull found)
-    by (inl (t, is)) null = inl (Some t, is)
-    by (inr none) (inl null) = inl (None, null)
     by (inr none) (inr other) = inr (neither none other)
 
 pub array_of-or-not : (found : Option (List ℕ)) → Fits found → Decided (IsArray found)

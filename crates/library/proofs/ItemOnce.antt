@@ -6,7 +6,7 @@ use Rattle.json_text.specs.Compact.{Member as Pair}
 use Rattle.scene_json.specs.Named.{value_at}
 use Rattle.elem.specs.ElementValue.{ElementValue}
 use Rattle.elem.specs.Forms.{IsId, IsObject, IsTextOrNull}
-use Rattle.elem.proofs.CallerLemmas.{members-once, text-once}
+use Rattle.elem.proofs.CallerLemmas.{members-once, text-once, text_or_null-once}
 use Rattle.elem_read.specs.Elements.{IsFirstFaulty}
 use Rattle.elem_read.specs.declared.fault.ElemFault.{ElemFault}
 use Rattle.elem_read.proofs.CallerLemmas.{faulty-once}
@@ -16,7 +16,7 @@ use Rattle.library.specs.Reading.{place_of, AreElementsOf, Fails, IsArray, IsEle
 use Rattle.library.specs.declared.fault.ItemFault.{ItemFault}
 use Rattle.library.specs.declared.fault.ItemFault.TheVariants.{NotObject, Id, Status, Created, Name, Elements, Element, Repeated}
 use Rattle.library.specs.declared.item.Item.{Item}
-use Rattle.library.proofs.ItemForms.{array_of-once, status-once, text_or_null-once, time-once}
+use Rattle.library.proofs.ItemForms.{array_of-once, status-once, time-once}
 
 -- ---- items
 elements-once : (values : List (List ℕ)) (xs ys : List ElementValue) → AreElementsOf values xs → AreElementsOf values ys

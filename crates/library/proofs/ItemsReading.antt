@@ -4,8 +4,8 @@ use Rattle.std.proofs.lemmas.List.{take_more}
 use Rattle.board_base.specs.declared.stop.Stop.TheVariants.{Fault}
 use Rattle.json_text.specs.Characters.{quote}
 use Rattle.json_text.specs.Compact.{Member as Pair}
+use Rattle.json_text.proofs.CallerLemmas.{ascii-utf8}
 use Rattle.scene_json.specs.Named.{value_at}
-use Rattle.elem.proofs.CallerLemmas.{literal}
 use Rattle.elem_read.proofs.CallerLemmas.{stopped}
 use Rattle.library.specs.Reading.{AreItemsIn, IsFirstFaultyItem, IsItemFault, IsItemIn, IsLibrary}
 use Rattle.library.specs.declared.fault.ItemFault.{ItemFault}
@@ -14,7 +14,7 @@ use Rattle.library.specs.declared.item.Item.{Item}
 
 pub is-library : (members : List Pair) → value_at (codes "type") members ≡ Some (quote (codes "excalidrawlib"))
     → IsLibrary members
-is-library members kind = (literal (codes "excalidrawlib") refl, kind)
+is-library members kind = (ascii-utf8 (codes "excalidrawlib") refl, kind)
 
 pub lib_fault-same : (A : Type 0) (a b : LibFault) → stopped A (Fault a) ≡ stopped A (Fault b) → a ≡ b
 lib_fault-same A a b e = cc

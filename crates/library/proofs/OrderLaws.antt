@@ -1,7 +1,7 @@
 -- What `is_better` is: a strict order by the time and the text.
 use Rattle.std.proofs.Common.{◌≡◌, true, false, arith}
 use Rattle.std.proofs.lemmas.Bool.Decides.{nat_tests}
-use Rattle.elem.proofs.CallerLemmas.{bytes-below, bytes-neither, bytes_less-asym, bytes_less-same, bytes_less-trans}
+use Rattle.frac_keys.proofs.CallerLemmas.{bytes-below, bytes-neither, bytes_less-asym, bytes_less_itself, bytes_less-trans}
 use Rattle.library.specs.Best.{is_better, text_less}
 use Rattle.library.specs.Items.{item_text}
 use Rattle.library.specs.declared.item.Item.{Item}
@@ -9,7 +9,7 @@ use Rattle.library.specs.declared.item.Item.{Item}
 -- ---- the order of texts
 less-same : (a : Item) → text_less a a ≡ false
 unfolding text_less
-less-same a = bytes_less-same (item_text a)
+less-same a = bytes_less_itself (item_text a)
 
 less-asym : (a b : Item) → text_less a b ≡ true → text_less b a ≡ false
 unfolding text_less

@@ -5,7 +5,7 @@ use Rattle.std.proofs.lemmas.Option.{none-some}
 use Rattle.std.proofs.lemmas.Slice.Eq.{bytes_eq-Decides}
 use Rattle.frac_keys.specs.Keys.{bytes_less}
 use Rattle.frac_keys.specs.Rising.{ends_rise, rise_between, are_rising}
-use Rattle.elem.proofs.CallerLemmas.{bytes_less-trans}
+use Rattle.frac_keys.proofs.CallerLemmas.{bytes_less-trans}
 use Rattle.elem_store.proofs.CallerLemmas.{Contains-cases, Contains-cons, Contains-head, find-None, find-Some, less-less, less-other}
 use Rattle.library.specs.Best.{has_id, ids_of, item_of}
 use Rattle.library.specs.declared.item.Item.{Item}

@@ -8,14 +8,14 @@ use Rattle.json_text.specs.Characters.{quote}
 use Rattle.json_text.specs.Compact.{array_text}
 use Rattle.json_text.specs.Parts.{AreMembers}
 use Rattle.json_text.specs.Value.{IsCompact}
-use Rattle.json_text.proofs.CallerLemmas.{Value-deeper, array-compact, decimal_nests, object-compact, quote-compact}
+use Rattle.json_text.proofs.CallerLemmas.{Value-deeper, array-compact, decimal_nests, object-compact, quote-compact, ascii-utf8}
 use Rattle.scene_json.specs.Named.{value_at}
 use Rattle.elem.specs.ElementValue.{ElementValue}
 use Rattle.elem.specs.Facts.{greatest_whole}
 use Rattle.elem.specs.Forms.{IsTextOrNull}
 use Rattle.elem.specs.Order.{HaveDistinctIds}
 use Rattle.elem.specs.Texts.{element_text}
-use Rattle.elem.proofs.CallerLemmas.{AreMembers-deeper, literal}
+use Rattle.elem.proofs.CallerLemmas.{AreMembers-deeper}
 use Rattle.elem_read.specs.Reading.{IsWholeElement}
 use Rattle.clips.specs.Placed.{elements_in, first_repeat, AreReadFrom}
 use Rattle.clips.proofs.CallerLemmas.{placed-whole, repeat-none}
@@ -92,8 +92,8 @@ item-sound value item is =
 
 -- ---- the members of an item's text
 word-utf8 : (published : Bool) → IsUtf8 (status_word published)
-word-utf8 true = literal (codes "published") refl
-word-utf8 false = literal (codes "unpublished") refl
+word-utf8 true = ascii-utf8 (codes "published") refl
+word-utf8 false = ascii-utf8 (codes "unpublished") refl
 
 pub elements-compact : (elements : List ElementValue) → All IsWholeElement elements
     → IsCompact 121 (array_text (map element_text elements))
@@ -112,10 +112,10 @@ members-are : (id : List ℕ) (published : Bool) (created : ℕ) (name : Option 
     }))
 members-are id published created None elements is = record {
   named = (
-    literal (codes "id") refl,
+    ascii-utf8 (codes "id") refl,
     (
-      literal (codes "status") refl,
-      (literal (codes "created") refl, (literal (codes "elements") refl, tt)),
+      ascii-utf8 (codes "status") refl,
+      (ascii-utf8 (codes "created") refl, (ascii-utf8 (codes "elements") refl, tt)),
     ),
   );
   valued = (
@@ -129,10 +129,10 @@ members-are id published created None elements is = record {
 }
 members-are id published created (Some name) elements is = record {
   named = (
-    literal (codes "id") refl,
+    ascii-utf8 (codes "id") refl,
     (
-      literal (codes "status") refl,
-      (literal (codes "created") refl, (literal (codes "name") refl, (literal (codes "elements") refl, tt))),
+      ascii-utf8 (codes "status") refl,
+      (ascii-utf8 (codes "created") refl, (ascii-utf8 (codes "name") refl, (ascii-utf8 (codes "elements") refl, tt))),
     ),
   );
   valued = (
@@ -239,9 +239,12 @@ items-read (item ∷ items) whole =
 
 library-are : (items : List Item) → All IsWholeItem items → AreMembers 127 (library_members items)
 library-are items whole = record {
-  named = (literal (codes "type") refl, (literal (codes "version") refl, (literal (codes "libraryItems") refl, tt)));
+  named = (
+    ascii-utf8 (codes "type") refl,
+    (ascii-utf8 (codes "version") refl, (ascii-utf8 (codes "libraryItems") refl, tt)),
+  );
   valued = (
-    quote-compact 127 (codes "excalidrawlib") (literal (codes "excalidrawlib") refl),
+    quote-compact 127 (codes "excalidrawlib") (ascii-utf8 (codes "excalidrawlib") refl),
     (
       decimal_nests 127 2 (omega arith),
       (Value-deeper (lit≤ tt) (array-compact 122 (map item_text items) (items-nest 122 (lit≤ tt) items whole)), tt),
@@ -256,7 +259,7 @@ unfolding library_text
 library-back items whole = record {
   members = library_members items;
   object = record { are_members = library-are items whole; spelled = refl };
-  kind = (literal (codes "excalidrawlib") refl, refl);
+  kind = (ascii-utf8 (codes "excalidrawlib") refl, refl);
   values = map item_text items;
   array = (items-nest 127 (lit≤ tt) items whole, refl);
   read = items-read items whole;

@@ -4,14 +4,13 @@ use Rattle.std.specs.List.{prefix_len}
 use Rattle.std.proofs.lemmas.Bool.{cases_lt}
 use Rattle.json_text.specs.Characters.{is_space}
 use Rattle.json_text.specs.Value.{IsCompact}
-use Rattle.json_text.proofs.CallerLemmas.{Value-compact}
+use Rattle.json_text.proofs.CallerLemmas.{Value-compact, run-blank}
 use Rattle.json_reader.specs.declared.fault.JsonFault.{JsonFault}
 use Rattle.json_reader.specs.declared.fault.JsonFault.TheVariants.{Syntax}
 use Rattle.json_reader.proofs.CallerLemmas.{value-or-fault}
 use Rattle.room_msg.specs.Messages.{IsReadAs, StandsAlone}
 use Rattle.room_msg.specs.declared.fault.MsgFault.{MsgFault}
 use Rattle.room_msg.specs.declared.message.Message.{Message}
-use Rattle.room_msg.proofs.CallerLemmas.{run-blank}
 use Rattle.session_text.specs.Lines.{LineText, OpeningText}
 use Rattle.session_text.specs.declared.fault.TextFault.{TextFault}
 use Rattle.session_text.specs.declared.fault.TextFault.TheVariants.{Json}

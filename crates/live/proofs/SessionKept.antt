@@ -1,13 +1,11 @@
 -- The events that lines are keep to what holds of every session.
-use Rattle.std.proofs.Common.{◌<◌, ◌+◌, ◌≤◌, ℕ, List, [], ◌∷◌, ◌++◌, length, Result, Ok, Err, All, sym, subst, arith}
+use Rattle.std.proofs.Common.{◌<◌, ◌+◌, ◌≤◌, ℕ, List, [], ◌∷◌, ◌++◌, length, Result, Ok, Err, sym, subst, arith}
 use Rattle.std.specs.List.{AllByRecursion}
-use Rattle.std.proofs.lemmas.List.Elements.{All-nil, All-weaker}
+use Rattle.std.proofs.lemmas.List.Elements.{All-nil}
 use Rattle.elem.specs.ElementValue.{ElementValue}
 use Rattle.elem.specs.Facts.{IsElement}
 use Rattle.elem.specs.Said.{AreElements, HasValidTexts}
-use Rattle.elem.specs.Texts.{element_text}
-use Rattle.elem_read.specs.Reading.{IsWholeElement}
-use Rattle.elem_read.proofs.CallerLemmas.{IsSound-read}
+use Rattle.elem.proofs.CallerLemmas.{AllByRecursion-append}
 use Rattle.room_msg.specs.Messages.{IsReadAs, IsWholeMessage}
 use Rattle.room_msg.specs.declared.fault.MsgFault.{MsgFault}
 use Rattle.room_msg.specs.declared.message.Message.{Message}
@@ -21,7 +19,7 @@ use Rattle.session_text.specs.declared.fault.TextFault.TheVariants.{Json}
 use Rattle.session_text.specs.declared.lines.Line.{Line}
 use Rattle.session_text.specs.declared.lines.Line.TheVariants as lines
 use Rattle.session_text.specs.declared.lines.Opening.{Opening}
-use Rattle.session_text.proofs.CallerLemmas.{apart, line-brings, line-within}
+use Rattle.session_text.proofs.CallerLemmas.{apart, line-brings, line-within, whole-elements}
 use Rattle.live.specs.Living.{brought_by, session_of}
 use Rattle.live.specs.Sessions.{AreEventsOf, AreReadEvents, SayEvents, message_events, taking_events}
 use Rattle.live.specs.Talks.{LineReads, faulty, says}
@@ -36,11 +34,6 @@ record Keep (made : ℕ) (es : List Event) : Type 0 where
 none-keep : (made : ℕ) → Keep made []
 none-keep made = record { places = tt; limits = tt; brings = tt; picks = tt }
 
-joined : {X : Type 0} (P : X → Type 0) (xs ys : List X) → AllByRecursion P xs → AllByRecursion P ys
-    → AllByRecursion P (xs ++ ys)
-joined P [] ys all others = others
-joined P (x ∷ xs) ys all others = (all.0, joined P xs ys all.1 others)
-
 joined-picks : (made : ℕ) (xs ys : List Event) → PickMade made xs → PickMade (made_after made xs) ys
     → PickMade made (xs ++ ys)
 joined-picks made [] ys picks others = others
@@ -48,21 +41,17 @@ joined-picks made (x ∷ xs) ys picks others = (picks.0, joined-picks (made + me
 
 joined-keep : (made : ℕ) (xs ys : List Event) → Keep made xs → Keep (made_after made xs) ys → Keep made (xs ++ ys)
 joined-keep made xs ys one two = record {
-  places = joined (IsAmong 64) xs ys one.places two.places;
-  limits = joined IsEventWithinLimits xs ys one.limits two.limits;
-  brings = joined BringsElements xs ys one.brings two.brings;
+  places = AllByRecursion-append (IsAmong 64) xs ys one.places two.places;
+  limits = AllByRecursion-append IsEventWithinLimits xs ys one.limits two.limits;
+  brings = AllByRecursion-append BringsElements xs ys one.brings two.brings;
   picks = joined-picks made xs ys one.picks two.picks;
 }
 
 -- ---- what a message brings
-whole-are : (elements : List ElementValue) → All IsWholeElement elements → AreElements elements
-whole-are elements whole =
-    All-weaker IsWholeElement (λ e. IsElement e × HasValidTexts e) (λ e is. let sound =
-    IsSound-read (element_text e) e is in (sound.is_element, sound.written)) elements whole
 
 brought-are : (message : Message) → IsWholeMessage message → AreElements (brought_by message)
-brought-are (messages.Init elements) whole = whole-are elements whole
-brought-are (messages.Update elements) whole = whole-are elements whole
+brought-are (messages.Init elements) whole = whole-elements elements whole
+brought-are (messages.Update elements) whole = whole-elements elements whole
 brought-are (messages.Presence value) whole = All-nil (λ e. IsElement e × HasValidTexts e)
 
 -- ---- a line

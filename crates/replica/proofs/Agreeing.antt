@@ -4,11 +4,12 @@ use Rattle.std.specs.Option.{option_map}
 use Rattle.std.proofs.lemmas.Bool.{false≢true}
 use Rattle.std.proofs.lemmas.Option.{none-some, same_Some}
 use Rattle.frac_keys.specs.Rising.{are_rising}
+use Rattle.json_text.proofs.CallerLemmas.{Contains-map, Contains-to_map}
 use Rattle.elem.specs.ElementValue.{ElementValue}
 use Rattle.elem.specs.Order.{unstamped, has_id}
 use Rattle.elem_store.specs.Updates.{element_of, ids_of}
 use Rattle.elem_store.proofs.CallerLemmas.{Contains-filter, filter-Contains, find-Some, member}
-use Rattle.delta.proofs.CallerLemmas.{same_members, Contains-map, Contains-to_map}
+use Rattle.delta.proofs.CallerLemmas.{same_members}
 use Rattle.view.specs.Shown.{is_live, live_elements, shown}
 use Rattle.view.proofs.CallerLemmas.{live_elements-rise, stamps-play_no_part}
 use Rattle.replica.specs.Back.{AgreesWith}
@@ -33,7 +34,7 @@ agrees-same old now others agrees same = record {
 }
 
 -- ---- lists that are the same but for stamps
-find-unstamped : (id : List ℕ) (es : List ElementValue) → bare_of es id ≡ element_of (map unstamped es) id
+pub find-unstamped : (id : List ℕ) (es : List ElementValue) → bare_of es id ≡ element_of (map unstamped es) id
 find-unstamped id [] = refl
 find-unstamped id (e ∷ es) =
     elim (has_id id e) as (λ b. option_map unstamped (cond b (Some e) (element_of es id))
@@ -46,7 +47,7 @@ pub same-bare : (a b : List ElementValue) → map unstamped a ≡ map unstamped 
 same-bare a b same id = find-unstamped id a ∙ ap (λ es. element_of es id) same ∙ sym (find-unstamped id b)
 
 -- ---- what is shown
-ids-unstamped : (es : List ElementValue) → ids_of (map unstamped es) ≡ ids_of es
+pub ids-unstamped : (es : List ElementValue) → ids_of (map unstamped es) ≡ ids_of es
 ids-unstamped [] = refl
 ids-unstamped (e ∷ es) = ap (λ ids. e.id ∷ ids) (ids-unstamped es)
 

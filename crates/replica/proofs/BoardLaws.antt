@@ -1,29 +1,29 @@
 -- What a board is after it stored updates: it is sound, and stands for what the same makes of a state.
-use Rattle.std.proofs.Common.{◌≡◌, ◌≢◌, ◌↔◌, Bool, true, false, IsTrue, List, [], ◌∷◌, IsSome, refl, sym, ap, ◌∙◌, subst, inl, inr, arith}
+use Rattle.std.proofs.Common.{◌≡◌, ◌≢◌, ◌↔◌, Bool, true, false, IsTrue, List, [], ◌∷◌, IsSome, refl, sym, ap, ◌∙◌, subst, arith}
 use Rattle.std.proofs.lemmas.Bool.{true_from_ne_false}
-use Rattle.std.proofs.lemmas.List.Elements.{All-nil, Contains-append_cases}
+use Rattle.std.proofs.lemmas.List.Elements.{All-nil}
 use Rattle.frac_keys.specs.Rising.{are_rising}
+use Rattle.json_text.proofs.CallerLemmas.{Contains-map}
 use Rattle.elem.specs.ElementValue.{ElementValue}
 use Rattle.elem.specs.Facts.{IsElement}
 use Rattle.elem.specs.Said.{HasValidTexts, AreElements}
 use Rattle.elem_store.specs.Updates.{element_of, ids_of, takings}
-use Rattle.elem_store.proofs.CallerLemmas.{filter-Contains, Contains-cases}
+use Rattle.elem_store.proofs.CallerLemmas.{filter-Contains}
 use Rattle.delta.specs.Delta.{Delta}
 use Rattle.delta.specs.Pairs.{Pair, pair_with, pairs_from, EntryStandsFor}
-use Rattle.delta.proofs.CallerLemmas.{Contains-map}
 use Rattle.view.specs.Shown.{live_elements}
 use Rattle.board_commands.specs.declared.command.Capture.{Capture}
 use Rattle.board_commands.specs.declared.command.Capture.TheVariants.{Now, Later, Never}
 use Rattle.history.specs.Pairs.{IsEntryOf, StackStandsFor, with_pairs, pairs_left}
 use Rattle.history.specs.Stacks.{Stacks, HasStoredIds, HaveStoredIds, noted, with_entry, redo_left}
-use Rattle.history.proofs.CallerLemmas.{noted-stands, left-stands}
+use Rattle.history.proofs.CallerLemmas.{noted-stands, left-stands, left-ids, noted-ids}
 use Rattle.undoing.specs.Carrying.{taken_all, carried_all}
 use Rattle.undoing.specs.Differing.{is_changed, pending}
-use Rattle.undoing.proofs.CallerLemmas.{pending-entry, taken_all-elements, taken_all-rising, carried_all-elements, carried_all-rising}
+use Rattle.undoing.proofs.CallerLemmas.{pending-entry, taken_all-elements, taken_all-rising, carried_all-elements, carried_all-rising, takings-elements}
 use Rattle.replica.specs.Boards.{Told, ToldStandsFor, IsSound, IsTold, HasTakenAll, HasCarriedAll, HasCaptured, HasStoredGiven}
 use Rattle.replica.specs.State as state
 use Rattle.replica.specs.State.{State}
-use Rattle.replica.proofs.StoredLaws.{ids-kept, stack-kept, carried-known, takings-elements, element-some}
+use Rattle.replica.proofs.StoredLaws.{ids-kept, stack-kept, carried-known, element-some}
 
 -- a board whose parts are these
 pub told-is : (t : Told) (stored view snapshot : List ElementValue) (stacks : Stacks) → t.stored ≡ stored
@@ -86,22 +86,6 @@ pending-ids snapshot stored entry rise stands part c =
     subst (λ id. IsSome (element_of stored id)) same (element-some stored own.0 rise own.1)
 
 -- ---- an entry that is noted
-noted-ids : (stored : List ElementValue) (entry : List Delta) (stack : List (List Delta)) → HasStoredIds stored entry
-    → HaveStoredIds stored stack → HaveStoredIds stored (with_entry entry stack)
-noted-ids stored [] stack own ids entry c = ids entry c
-noted-ids stored (part ∷ parts) stack own ids entry c =
-    elim (Contains-append_cases stack ((part ∷ parts) ∷ []) entry c) [
-      | inl old ↦ ids entry old
-      | inr new ↦ elim (Contains-cases (part ∷ parts) [] entry new) [
-        | inl same ↦ subst (HasStoredIds stored) same own
-        | inr none ↦ absurd (omega (arith, none.1))
-      ]
-    ]
-
-left-ids : (stored : List ElementValue) (entry : List Delta) (stack : List (List Delta)) → HaveStoredIds stored stack
-    → HaveStoredIds stored (redo_left entry stack)
-left-ids stored [] stack ids entry c = ids entry c
-left-ids stored (part ∷ parts) stack ids entry c = absurd (omega (arith, c.1))
 
 noted-parts : (pairs : List Pair) (s : State) → (((state.noted pairs s).undo ≡ with_pairs pairs s.undo)
     × ((state.noted pairs s).redo ≡ pairs_left pairs s.redo)) × ((state.noted pairs s).stored ≡ s.stored)

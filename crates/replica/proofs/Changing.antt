@@ -4,6 +4,7 @@ use Rattle.std.specs.Option.{option_map}
 use Rattle.std.proofs.lemmas.Bool.{cases_Bool, false≢true, both_ways}
 use Rattle.std.proofs.lemmas.Option.{none-some, same_Some}
 use Rattle.frac_keys.specs.Rising.{are_rising}
+use Rattle.json_text.proofs.CallerLemmas.{Contains-map, Contains-to_map}
 use Rattle.elem.specs.ElementValue.{ElementValue}
 use Rattle.elem.specs.Order.{unstamped, has_id}
 use Rattle.elem.specs.Said.{AreElements}
@@ -11,7 +12,6 @@ use Rattle.elem_store.specs.Updates.{element_of, ids_of}
 use Rattle.elem_store.proofs.CallerLemmas.{same_id, Contains-head, Contains-filter, filter-Contains, find-Some, member}
 use Rattle.delta.specs.Pairs.{Pair, pair_with, pairs_from, IsChanged}
 use Rattle.delta.specs.Parts.{counted}
-use Rattle.delta.proofs.CallerLemmas.{Contains-map, Contains-to_map}
 use Rattle.undoing.specs.Carrying.{taken_all}
 use Rattle.undoing.specs.Differing.{is_changed, pending}
 use Rattle.undoing.specs.Entries.{IsEntry}

@@ -3,7 +3,7 @@ use Rattle.std.proofs.Common.{◌≡◌, ℕ, Bool, true, false, not, ◌||◌, 
 use Rattle.std.specs.Option.{option_map, option_map_or}
 use Rattle.std.proofs.lemmas.Bool.{true_from_ne_false, both_ways, and_from, or_left, or_right}
 use Rattle.std.proofs.lemmas.Option.{none-some, same_Some}
-use Rattle.json_text.proofs.CallerLemmas.{bytes_eq-true, bytes_eq-same}
+use Rattle.json_text.proofs.CallerLemmas.{bytes_eq-true, bytes_eq-same, Contains-map, Contains-to_map}
 use Rattle.frac_keys.specs.Rising.{are_rising}
 use Rattle.elem.specs.ElementValue.{ElementValue}
 use Rattle.elem.specs.Order.{unstamped}
@@ -12,14 +12,12 @@ use Rattle.elem.specs.Stamp.{stamped}
 use Rattle.elem_store.specs.Updates.{element_of, ids_of}
 use Rattle.elem_store.proofs.CallerLemmas.{find-Some, is_some-find, list_any-false}
 use Rattle.delta.specs.Pairs.{Pair, pair_with}
-use Rattle.delta.proofs.CallerLemmas.{Contains-map, Contains-to_map}
 use Rattle.undoing.specs.Carrying.{taken_all}
 use Rattle.undoing.specs.Differing.{differ}
 use Rattle.undoing.specs.Entries.{IsEntry, IsGiven}
 use Rattle.undoing.specs.Steps.{Reverted, reverted, is_visible, is_seen, given, made}
 use Rattle.undoing.specs.Undoing.{undone}
-use Rattle.undoing.proofs.CallerLemmas.{differ-false, found-is, given-each, given-all, given-taken, given-rise, undone-stamp, undone-element}
-use Rattle.replica.proofs.Backward.{undone-back}
+use Rattle.undoing.proofs.CallerLemmas.{differ-false, found-is, given-each, given-all, given-taken, given-rise, undone-stamp, undone-element, undone-back}
 use Rattle.replica.proofs.TakenAt.{taken-at, taken-else}
 
 -- ---- elements that are the same but for stamps
@@ -118,7 +116,7 @@ module _ (stored : List ElementValue) (pairs : List Pair) (are : AreElements sto
   module _ (pair : Pair) (c : Contains pairs pair) (now : ElementValue) (found : element_of stored pair.after.id
       ≡ Some now) (same : unstamped now ≡ unstamped pair.after) where
     back : unstamped (undone pair now) ≡ unstamped pair.before
-    back = undone-back pair (entry.each pair c).0 (entry.each pair c).1 now same
+    back = let own = entry.each pair c in undone-back pair own.0 own.1.id own.1.kind now same
 
     differs : differ now (undone pair now) ≡ true
     differs =

@@ -5,7 +5,6 @@ mod TouchingLaws
 mod TurnLaws
 mod ReplicaLaws
 mod CallLaws
-pub mod Backward
 pub mod TakenAt
 pub mod Leading
 pub mod Agreeing

@@ -1,9 +1,10 @@
 -- States between changes, undos and redos: what was stored after each change, and the ways to it.
-use Rattle.std.proofs.Common.{◌≡◌, ◌≤◌, ◌<◌, ℕ, zero, suc, ◌+◌, ◌-◌, Bool, true, false, ◌&&◌, List, [], ◌∷◌, length, take, filter, Option, Some, None, Ok, Contains, refl, sym, ap, ◌∙◌, subst, arith}
-use Rattle.std.proofs.lemmas.Bool.{cond-false}
+use Rattle.std.proofs.Common.{◌≡◌, ◌≤◌, ◌<◌, ℕ, zero, suc, ◌+◌, ◌-◌, Bool, true, false, List, [], ◌∷◌, length, take, filter, Option, Some, None, Ok, Contains, refl, sym, ap, ◌∙◌, subst, arith}
+use Rattle.std.proofs.lemmas.Bool.{cond-false, and_right}
 use Rattle.std.proofs.lemmas.Option.{same_Some}
 use Rattle.std.proofs.lemmas.List.{take_all}
 use Rattle.frac_keys.specs.Rising.{are_rising}
+use Rattle.json_text.proofs.CallerLemmas.{Contains-map}
 use Rattle.elem.specs.ElementValue.{ElementValue}
 use Rattle.elem.specs.Order.{unstamped}
 use Rattle.elem.specs.Said.{AreElements}
@@ -11,7 +12,6 @@ use Rattle.elem_store.specs.Updates.{element_of, ids_of}
 use Rattle.elem_store.proofs.CallerLemmas.{Contains-head, Contains-cons, member}
 use Rattle.delta.specs.Pairs.{Pair, pair_with, pairs_from}
 use Rattle.delta.specs.Parts.{counted}
-use Rattle.delta.proofs.CallerLemmas.{Contains-map}
 use Rattle.history.specs.declared.planned.Direction.TheVariants.{Undo, Redo}
 use Rattle.undoing.specs.Carrying.{taken_all}
 use Rattle.undoing.specs.Differing.{same_kind, differ, is_changed, pending}
@@ -31,17 +31,13 @@ filter-none p (x ∷ xs) none =
     cond-false (p x) (x ∷ filter p xs) (filter p xs) (none x (Contains-head x xs))
     ∙ filter-none p xs (λ y c. none y (Contains-cons x xs y c))
 
-and-false : (b c : Bool) → c ≡ false → (b && c) ≡ false
-and-false true c h = h
-and-false false c h = refl
-
 pending-none : (snapshot stored : List ElementValue) → are_rising (ids_of stored) ≡ true → AgreesWith snapshot stored
     → pending snapshot stored ≡ []
 pending-none snapshot stored rise agrees = filter-none is_changed (pairs_from (element_of snapshot) stored) (λ pair c.
     let of = Contains-map (λ (e : ElementValue). pair_with (element_of snapshot e.id) e) stored pair c in
     let was : ElementValue = counted (element_of snapshot of.0.id) of.0 in
     subst (λ p. is_changed p ≡ false) of.2
-    (and-false (same_kind was.kind of.0.kind) (differ was of.0)
+    (and_right (same_kind was.kind of.0.kind) (differ was of.0)
     (differ-same was of.0 (same of.0 (member None None stored of.0 rise of.1) (element_of snapshot of.0.id) refl))))
   where
     same : (e : ElementValue) → element_of stored e.id ≡ Some e → (o : Option ElementValue)
@@ -210,7 +206,7 @@ module _ (stored_at : ℕ → List ElementValue) where
       (changed-at givens (suc i) (changed given s) next (changed-ready i s given was ready changes.0) changes.1)
 
 -- ---- from a sound state on which nothing is pending
-noted-stored : (entry : List Pair) (s : State) → (noted entry s).stored ≡ s.stored
+pub noted-stored : (entry : List Pair) (s : State) → (noted entry s).stored ≡ s.stored
 noted-stored [] s = refl
 noted-stored (pair ∷ entry) s = refl
 

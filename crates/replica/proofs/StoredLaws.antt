@@ -4,7 +4,6 @@ use Rattle.std.proofs.lemmas.Bool.{cases_Bool, cond-false, cond_both}
 use Rattle.std.proofs.lemmas.List.Elements.{All-append, All-contains, All-head, All-tail, Contains-append_right, All-nil, All-cons, All-weaker, All-contains_itself}
 use Rattle.frac_keys.specs.Rising.{are_rising}
 use Rattle.elem.specs.ElementValue.{ElementValue}
-use Rattle.elem.specs.Said.{AreElements}
 use Rattle.elem.specs.Order.{has_id}
 use Rattle.elem_store.specs.Updates.{Taking, is_newer, element_of, ids_of, stored_of, takings, AreStored}
 use Rattle.elem_store.proofs.CallerLemmas.{IsBestOf-stored, same_id, of_itself, find-Some, member, AreStored-itself, AreStored-ids, ids-stay}
@@ -14,8 +13,7 @@ use Rattle.delta.specs.Pairs.{Pair}
 use Rattle.undoing.specs.Carrying.{with_put, taken_all, followed, carried_over, carried, carried_all}
 use Rattle.undoing.specs.Differing.{same_kind}
 use Rattle.undoing.specs.Undoing.{undone, undone_in}
-use Rattle.undoing.specs.Entries.{IsTakingOfElements}
-use Rattle.undoing.proofs.CallerLemmas.{put-each, taken_all-is, taken_all-stored, carried-rising, Is}
+use Rattle.undoing.proofs.CallerLemmas.{put-each, taken_all-is, taken_all-stored, carried-rising}
 use Rattle.history.specs.Stacks.{HaveStoredIds}
 use Rattle.replica.specs.Boards.{AreKnown}
 
@@ -67,10 +65,6 @@ takings-from P updates (e ∷ list) all all' =
     before : (o : Option ElementValue) → stored_of updates e.id ≡ o → IfSome o P
     before None h = tt
     before (Some x) h = All-contains P updates x all (IsBestOf-stored updates e.id x h).taken
-
-pub takings-elements : (updates list : List ElementValue) → AreElements updates → AreElements list
-    → All IsTakingOfElements (takings updates list)
-takings-elements updates list are are' = takings-from Is updates list are are'
 
 -- ---- a snapshot into which changes were carried
 -- each id of these elements is one of some

@@ -10,11 +10,6 @@ pub either-way : {X Y : Type 0} {P Q R : Type 0} (result : Result X Y) → OnOk 
 either-way (Ok x) p q f g = f p
 either-way (Err y) p q f g = g q
 
--- a snapshot that is what is stored
-pub captured-untouched : (ids : List (List ℕ)) (snapshot stored : List ElementValue) → snapshot ≡ stored
-    → AreUntouched ids snapshot stored
-captured-untouched ids snapshot stored same id f = ap (λ es. element_of es id) same
-
 -- a snapshot and stored elements that stay
 pub kept-untouched : (ids : List (List ℕ)) (snapshot stored snapshots stores : List ElementValue) → snapshots ≡ snapshot
     → stores ≡ stored → AreUntouched ids snapshot stored → AreUntouched ids snapshots stores

@@ -1,19 +1,17 @@
 -- The rows of the table: their names rise, and their defaults are compact texts.
-use Rattle.std.proofs.Common.{length, get_or, drop, map, bytes_eq, Some, ◌≡◌, ◌≢◌, ◌<◌, ℕ, zero, suc, List, [], ◌∷◌, Bool, true, ◌&&◌, None, codes, nat_cmp, is_lt, refl, sym, append-nil, inl, inr, Ordering, arith}
+use Rattle.std.proofs.Common.{length, get_or, drop, map, bytes_eq, Some, ◌≡◌, ◌≢◌, ◌<◌, ℕ, zero, suc, List, [], ◌∷◌, Bool, true, ◌&&◌, None, codes, nat_cmp, is_lt, refl, sym, append-nil, inl, inr, arith}
 use Rattle.std.specs.Cmp.Lexicographic.{slice_cmp}
 use Rattle.std.specs.List.{AllByRecursion, list_all}
 use Rattle.std.specs.Prelude.{nat_lt}
-use Rattle.std.specs.Str.{IsAscii}
-use Rattle.std.specs.declared.cmp.Ordering.TheVariants.{Less, Equal, Greater}
-use Rattle.std.proofs.lemmas.Bool.{and_parts, ltb-true}
+use Rattle.std.specs.declared.cmp.Ordering.TheVariants.{Less}
+use Rattle.std.proofs.lemmas.Bool.{and_parts}
 use Rattle.std.proofs.lemmas.Map.Entries.{lookup_head}
-use Rattle.std.proofs.lemmas.Str.{IsUtf8-from_ascii}
 use Rattle.json_text.specs.Characters.{quote, is_digit}
 use Rattle.json_text.specs.Compact.{Member as Pair, array_text}
 use Rattle.json_text.specs.Tree.{null_word, false_word}
 use Rattle.json_text.specs.Value.{IsCompact}
 use Rattle.scene_json.specs.Named.{value_at, HaveRisingNames}
-use Rattle.json_text.proofs.CallerLemmas.{quote-compact, literal-compact, array-compact}
+use Rattle.json_text.proofs.CallerLemmas.{quote-compact, literal-compact, array-compact, ascii-utf8}
 use Rattle.scene_json.proofs.CallerLemmas.{IsBelow-less, rising_from, rising_none, rising_parts}
 use Rattle.restore_table.specs.declared.table.Row.{Row}
 use Rattle.restore_table.specs.Merged.{row_pair}
@@ -26,17 +24,12 @@ rise_one_by_one [] = true
 rise_one_by_one (m ∷ []) = true
 rise_one_by_one (m ∷ n ∷ ms) = is_lt (slice_cmp nat_cmp m.0 n.0) && rise_one_by_one (n ∷ ms)
 
-less : (o : Ordering) → is_lt o ≡ true → o ≡ Less
-less Less h = refl
-less Equal h = cc
-less Greater h = cc
-
 rising : (ms : List Pair) → rise_one_by_one ms ≡ true → HaveRisingNames ms
 rising [] h = rising_none
 rising (m ∷ []) h = rising_from m [] tt rising_none
 rising (m ∷ n ∷ ms) h =
     let parts = and_parts (is_lt (slice_cmp nat_cmp m.0 n.0)) (rise_one_by_one (n ∷ ms)) h in
-    let first = less (slice_cmp nat_cmp m.0 n.0) parts.0 in
+    let first : slice_cmp nat_cmp m.0 n.0 ≡ Less = grind (arith, parts.0) in
     let others = rising (n ∷ ms) parts.1 in
     rising_from m (n ∷ ms) (first, IsBelow-less m.0 n.0 ms first (rising_parts n ms others).0) others
 
@@ -76,13 +69,8 @@ zero_digit = literal-compact 1 (codes "0") (inl (record {
   scaled = inl refl;
 }))
 
-ascii : (bs : List ℕ) → list_all (λ b. nat_lt b 128) bs ≡ true → IsAscii bs
-ascii [] h i = omega arith
-ascii (b ∷ bs) h zero = ltb-true b 128 (and_parts _ _ h).0
-ascii (b ∷ bs) h (suc i) = ascii bs (and_parts _ _ h).1 i
-
 word : (bs : List ℕ) → list_all (λ b. nat_lt b 128) bs ≡ true → IsCompact 1 (quote bs)
-word bs h = quote-compact 1 bs (IsUtf8-from_ascii bs (ascii bs h))
+word bs h = quote-compact 1 bs (ascii-utf8 bs h)
 
 transparent : IsCompact 1 (codes "\"transparent\"")
 unfolding quote

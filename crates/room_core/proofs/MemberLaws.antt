@@ -178,7 +178,7 @@ read-of : (b : Bool) (link : ℕ) (bytes : List ℕ) (happening : Happening)
 read-of true link bytes happening (answer, read, is) = subst (λ h. WasRead h) (sym is) (bytes, read)
 read-of false link bytes happening is = subst (λ h. WasRead h) (sym is) tt
 
-heard-read : (joined : List ℕ) (event : LinkEvent) (happening : Happening) → IsHeardAs joined event happening
+pub heard-read : (joined : List ℕ) (event : LinkEvent) (happening : Happening) → IsHeardAs joined event happening
     → WasRead happening
 heard-read joined (Opened link) happening is = subst (λ h. WasRead h) (sym is) tt
 heard-read joined (Text link bytes) happening is = read-of (is_among joined link) link bytes happening is

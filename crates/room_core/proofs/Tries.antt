@@ -1,5 +1,5 @@
 -- What links tell, call after call.
-use Rattle.std.proofs.Common.{◌≡◌, ℕ, zero, suc, ◌+◌, ◌<◌, Bool, true, false, not, List, [], ◌∷◌, ◌++◌, Option, Some, None, option_map, IfSome, length, map, filter, drop, get_or, refl, sym, ap, ap₂, subst, ◌∙◌, append_assoc, append-nil, length-append, Result, Ok, Err, OnErr, arith}
+use Rattle.std.proofs.Common.{◌≡◌, ℕ, zero, suc, ◌+◌, ◌<◌, Bool, true, false, not, List, [], ◌∷◌, ◌++◌, Option, Some, None, option_map, IfSome, length, map, filter, drop, get_or, refl, sym, ap, ap₂, subst, ◌∙◌, append_assoc, append-nil, length-append, arith}
 use Rattle.std.proofs.lemmas.List.{get_or-map, length-map, map-append}
 use Rattle.std.proofs.lemmas.List.Elements.{filter-append}
 use Rattle.board_ends.specs.Events.{with_last, with_lost}
@@ -149,7 +149,3 @@ told-next a b c links text gone i try l at is tried told =
 pub tried-none : (a b : LinksEnd) (texts : List (ℕ × List ℕ)) → b ≡ a → HaveTried a b texts [] texts
 tried-none a b texts same =
     record { tries = []; tried = refl; gone_links = refl; told = rw same (tells-nothing a a refl refl refl) }
-
-pub on_err : {A E P : Type 0} (r : Result A E) → P → OnErr r P
-on_err (Ok a) p = tt
-on_err (Err e) p = p

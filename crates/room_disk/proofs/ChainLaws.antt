@@ -21,7 +21,7 @@ use Rattle.room_disk.specs.Resuming.{filled_above, greatest_key, last_behind, re
 use Rattle.room_disk.specs.declared.fault.KeepFault.{KeepFault}
 use Rattle.room_disk.proofs.KeyBeats.{key-beats}
 use Rattle.room_disk.proofs.KeptStops.{AreWholeMessages, told_first}
-use Rattle.room_disk.proofs.ResumeLaws.{filled-ids, resumed-whole}
+use Rattle.room_disk.proofs.ResumeLaws.{filled-ids, resumed-whole, same-id}
 
 -- what is cited of laws below
 abbrev pub AreTransitive : Type 0
@@ -168,10 +168,6 @@ one_filled : (index last : Option (List ℕ)) (e : ElementValue) → e.index ≡
 one_filled (Some key) last e is = inl refl
 one_filled None last e is = inr (key-beats e (key_between last None) is)
 
-filled_id : (index last : Option (List ℕ)) (e : ElementValue) → (with_key_above index last e).id ≡ e.id
-filled_id (Some key) last e = refl
-filled_id None last e = refl
-
 filled_keeps : (last : Option (List ℕ)) (elements : List ElementValue) (e : ElementValue) → Contains elements e
     → IsKeptIn (filled_above last elements) e
 filled_keeps last [] e (k, l, is) = absurd (omega (arith, l))
@@ -179,7 +175,7 @@ filled_keeps last (f ∷ elements) e among = elim (Contains-cases f elements e a
   | inl same ↦ subst (IsKeptIn (filled_above last (f ∷ elements))) same (
     with_key_above f.index last f,
     Contains-head (with_key_above f.index last f) (filled_above (last_behind f.index last) elements),
-    filled_id f.index last f,
+    same-id f.index last f,
     one_filled f.index last f refl,
   )
   | inr there ↦

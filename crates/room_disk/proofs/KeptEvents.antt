@@ -1,7 +1,6 @@
 -- What one event gives a durable room.
-use Rattle.std.proofs.Common.{◌≡◌, ℕ, ◌+◌, ◌≤◌, Bool, true, false, List, [], ◌∷◌, ◌++◌, length, map, filter, not, Option, Some, Result, Ok, Err, inl, inr, refl, sym, ap, ap₂, subst, ◌∙◌, append-nil, append_assoc, arith}
+use Rattle.std.proofs.Common.{◌≡◌, ℕ, ◌+◌, ◌≤◌, Bool, true, false, List, [], ◌∷◌, ◌++◌, length, map, Option, Some, Result, Ok, Err, inl, inr, refl, sym, ap, ap₂, subst, ◌∙◌, append-nil, append_assoc, arith}
 use Rattle.std.specs.Prelude.{MatchBool}
-use Rattle.std.proofs.lemmas.List.Elements.{filter-append}
 use Rattle.std.proofs.lemmas.List.{map-append}
 use Rattle.elem.specs.ElementValue.{ElementValue}
 use Rattle.board_ends.specs.Ends.{LinksEnd, SinkEnd, Took, KeepsSafe, IsSynced}
@@ -15,9 +14,9 @@ use Rattle.room_msg.specs.declared.message.Message.TheVariants.{Init, Update, Pr
 use Rattle.room_core.specs.Planned.{IsPlanned, IsChanged, record_in, record_of as record_heard, texts_told}
 use Rattle.room_core.specs.Rooms.{RoomState, Happening, Joined, Heard, Left, Nothing, HaveTaken, IsHeardAs, IsRoomAfter, is_among, without}
 use Rattle.room_core.specs.Serving.{step_count}
-use Rattle.room_core.specs.Told.{HaveTried, Tells, Try, links_gone, texts_tried}
+use Rattle.room_core.specs.Told.{HaveTried, Tells, Try, texts_tried}
 use Rattle.room_core.specs.declared.plan.Plan.{Plan}
-use Rattle.room_core.proofs.CallerLemmas.{tells-nothing, tells-twice}
+use Rattle.room_core.proofs.CallerLemmas.{tells-nothing, tells-twice, links_gone-append}
 use Rattle.room_disk.specs.Keeping.{HasGained, kept_text, kept_texts, messages_in, step_texts, told_last, untouched}
 use Rattle.room_disk.specs.Records.{record_of, update_record}
 use Rattle.room_disk.specs.declared.keep_end.KeepEnd.{KeepEnd}
@@ -27,10 +26,6 @@ use Rattle.intake.proofs.CallerLemmas.{took-none}
 use Rattle.room_disk.proofs.Gains.{gained-all, safe-all, safe-less, safe-still}
 
 -- ---- the texts of two calls
-links_gone-append : (ts us : List Try) → links_gone (ts ++ us) ≡ links_gone ts ++ links_gone us
-links_gone-append ts us =
-    ap (map (λ (try : Try). try.link)) (filter-append (λ (try : Try). not try.is_sent) ts us)
-    ∙ map-append _ (filter (λ (try : Try). not try.is_sent) ts) (filter (λ (try : Try). not try.is_sent) us)
 
 pub tried-twice : (a b c : LinksEnd) (xs ys : List (ℕ × List ℕ)) (gone more : List ℕ) (rest : List (ℕ × List ℕ))
     → HaveTried a b xs gone [] → HaveTried b c ys more rest → HaveTried a c (xs ++ ys) (gone ++ more) rest

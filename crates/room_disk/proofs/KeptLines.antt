@@ -13,7 +13,7 @@ use Rattle.room_disk.specs.declared.fault.KeepFault.{KeepFault}
 use Rattle.room_disk.specs.declared.fault.KeepFault.TheVariants.{Line}
 use Rattle.room_disk.specs.declared.fault.LineFault.{LineFault}
 
-abbrev all : List (List ElementValue) → List ElementValue
+abbrev pub all : List (List ElementValue) → List ElementValue
 all messages = flat_map (λ (es : List ElementValue). es) messages
 
 updates-more : (lines : List (List ℕ)) (messages : List (List ElementValue)) (line : List ℕ)

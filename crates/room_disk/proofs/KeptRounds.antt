@@ -1,36 +1,18 @@
 -- The rounds of a durable room are steps of it, and what it stores is what its messages store.
-use Rattle.std.proofs.Common.{◌≡◌, ℕ, Bool, true, false, List, [], ◌∷◌, ◌++◌, flat_map, Result, Ok, Err, refl, sym, ap, subst, ◌∙◌, append-nil, append_assoc}
-use Rattle.std.specs.Prelude.{MatchBool}
+use Rattle.std.proofs.Common.{◌≡◌, ℕ, List, [], ◌∷◌, ◌++◌, flat_map, Ok, Err, refl, sym, ap, subst, ◌∙◌, append-nil, append_assoc}
 use Rattle.std.proofs.lemmas.List.Concat.{flat_map-append}
 use Rattle.elem.specs.ElementValue.{ElementValue}
 use Rattle.elem_store.specs.Updates.{AreStored}
-use Rattle.board_ends.specs.declared.links.LinkEvent.{LinkEvent}
-use Rattle.board_ends.specs.declared.links.LinkEvent.TheVariants.{Opened, Text, Closed, Idle}
-use Rattle.room_msg.specs.Messages.{IsReadAs}
-use Rattle.room_msg.specs.declared.fault.MsgFault.{MsgFault}
-use Rattle.room_msg.specs.declared.message.Message.{Message}
 use Rattle.room_msg.specs.declared.message.Message.TheVariants.{Init, Update, Presence}
-use Rattle.room_core.specs.Members.{AreSteps, WasRead}
-use Rattle.room_core.specs.Rooms.{RoomState, Happening, Joined, Heard, Left, Nothing, IsHeardAs, IsRoomAfter, is_among, taken_of}
+use Rattle.room_core.specs.Members.{AreSteps}
+use Rattle.room_core.specs.Rooms.{RoomState, Happening, Joined, Heard, Left, Nothing, IsRoomAfter, taken_of}
 use Rattle.room_core.specs.Serving.{Serving, Round, serving_after, serving_at, steps_of}
 use Rattle.room_core.specs.Told.{links_gone}
 use Rattle.room_core.specs.declared.limits.RoomLimits.{RoomLimits}
-use Rattle.room_core.proofs.CallerLemmas.{none_taken}
+use Rattle.room_core.proofs.CallerLemmas.{none_taken, heard-read}
 use Rattle.room_disk.specs.Keeping.{AreKeptRounds, count_after, messages_in, messages_of}
 
 -- ---- steps
-text_read : (b : Bool) (link : ℕ) (bytes : List ℕ) (happening : Happening)
-    → MatchBool b ((answer : Result Message MsgFault) × IsReadAs bytes answer
-    × (happening ≡ Heard link answer)) (happening ≡ Nothing) → WasRead happening
-text_read true link bytes happening heard = subst WasRead (sym heard.2) (bytes, heard.1)
-text_read false link bytes happening heard = subst WasRead (sym heard) tt
-
-was_read : (joined : List ℕ) (event : LinkEvent) (happening : Happening) → IsHeardAs joined event happening
-    → WasRead happening
-was_read joined (Opened link) happening heard = subst WasRead (sym heard) tt
-was_read joined (Text link bytes) happening heard = text_read (is_among joined link) link bytes happening heard
-was_read joined (Closed link) happening heard = subst WasRead (sym heard) tt
-was_read joined Idle happening heard = subst WasRead (sym heard) tt
 
 pub kept-steps : (limits : RoomLimits) (now : Serving) (count : ℕ) (rounds : List Round)
     → AreKeptRounds limits now count rounds → AreSteps now.room (steps_of rounds) (serving_at now rounds).room
@@ -41,7 +23,7 @@ kept-steps limits now count (round ∷ rounds) are =
       elements = none_taken round.stepped.elements round.after.elements (ap (λ (s : RoomState). s.elements) one.after);
       joined = ap (λ (s : RoomState). s.joined) one.after;
     } in (
-      was_read now.room.joined round.event round.happening one.heard,
+      heard-read now.room.joined round.event round.happening one.heard,
       one.stepped,
       (tt, left, kept-steps limits (serving_after now round) (count_after count round) rounds are.3),
     )

@@ -3,14 +3,15 @@ use Rattle.std.proofs.Common.{◌≡◌, ℕ, Bool, true, false, ◌&&◌, ◌||
 use Rattle.std.specs.Prelude.{if◌then◌else◌}
 use Rattle.std.specs.Cmp.Lexicographic.{slice_cmp}
 use Rattle.std.specs.List.{join_with_byte}
-use Rattle.std.specs.Ordering.{is_lt, nat_cmp, ordering_then}
+use Rattle.std.specs.Ordering.{nat_cmp}
 use Rattle.std.proofs.lemmas.Bool.Decides.{nat_tests}
-use Rattle.std.proofs.Common.{Ordering, arith}
+use Rattle.std.proofs.Common.{arith}
 use Rattle.json_text.specs.Characters.{quote}
 use Rattle.json_text.specs.Compact.{Member as Pair, array_text, member_text, object_text}
 use Rattle.json_text.specs.Members.{pairs}
 use Rattle.json_text.specs.Tree.{null_word}
 use Rattle.frac_keys.specs.Keys.{bytes_less}
+use Rattle.frac_keys.proofs.CallerLemmas.{alike}
 use Rattle.elem.specs.ElementValue.{ElementValue}
 use Rattle.elem.specs.Order.{beats, text_less}
 use Rattle.elem.specs.Texts.{bound_text, element_members, element_text, header_members, kind_name, own_members, sorted_members, text_or_null, truth_text, with_member}
@@ -19,8 +20,6 @@ use Rattle.elem.specs.declared.kind.Kind.TheVariants.{Rectangle, Diamond, Ellips
 use Rattle.index_repair.specs.Keyed.{with_index}
 
 -- ---- less bytes
-alike : (x : ℕ) (o : Ordering) → is_lt o ≡ true → is_lt (ordering_then (nat_cmp x x) o) ≡ true
-alike x o h = grind (arith, nat_tests)
 
 less_front : (front a b : List ℕ) → bytes_less a b ≡ true → bytes_less (front ++ a) (front ++ b) ≡ true
 less_front [] a b less = less

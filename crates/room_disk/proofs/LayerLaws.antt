@@ -5,15 +5,14 @@ use Rattle.std.proofs.lemmas.Bool.{and_parts}
 use Rattle.frac_keys.specs.Between.{key_between}
 use Rattle.frac_keys.specs.Keys.{bytes_less}
 use Rattle.frac_keys.specs.Rising.{are_rising, ends_rise, is_key_or_none, rise_between}
-use Rattle.frac_keys.proofs.CallerLemmas.{key_between-law}
+use Rattle.frac_keys.proofs.CallerLemmas.{key_between-law, bytes_less-asym, bytes_less-trans, ends_rise-none}
 use Rattle.elem.specs.ElementValue.{ElementValue}
-use Rattle.elem.proofs.CallerLemmas.{bytes_less-asym, bytes_less-trans}
 use Rattle.elem_store.specs.Updates.{ids_of}
 use Rattle.elem_store.proofs.CallerLemmas.{Contains-cons, Contains-head, above}
 use Rattle.index_repair.specs.Keyed.{HaveKeysOrNone}
 use Rattle.view.specs.Shown.{comes_before, in_scene_order, is_live, live_elements, place_less, with_element}
 use Rattle.room_disk.specs.Resuming.{IsAtMost, filled_above, greatest_key, last_behind, resumed, with_key_above}
-use Rattle.room_disk.proofs.ResumeLaws.{greatest-key, keys-within}
+use Rattle.room_disk.proofs.ResumeLaws.{greatest-key, keys-within, last-key}
 
 -- ---- lists of two, element by element
 abbrev AreZipped : (ElementValue → ElementValue → Type 0) → List ElementValue → List ElementValue → Type 0
@@ -166,21 +165,11 @@ unfolding IsLaidBy
 laid-first greatest last (Some k) e valid over is within =
     ((refl, refl), subst (λ index. IsLaidBy index greatest last e) (sym is) (is, within k is))
 laid-first greatest last None e valid over is within =
-    let between = key_between-law last None valid refl (open-end last) in (
+    let between = key_between-law last None valid refl (ends_rise-none last) in (
       (refl, refl),
       subst (λ index. IsLaidBy index greatest last (with_key_above None last e)) (sym is)
           (key_between last None, refl, between.above, over (key_between last None) between.above),
     )
-  where
-    open-end : (a : Option (List ℕ)) → ends_rise a None ≡ true
-    open-end None = refl
-    open-end (Some a) = refl
-
-last-valid : (index last : Option (List ℕ)) → is_key_or_none last ≡ true
-    → is_key_or_none (last_behind index last) ≡ true
-last-valid (Some key) last valid = valid
-last-valid None None valid = (key_between-law None None valid refl refl).key
-last-valid None (Some last) valid = (key_between-law (Some last) None valid refl refl).key
 
 last-above : (index last greatest : Option (List ℕ)) → is_key_or_none last ≡ true → IsAbove last greatest
     → IsAbove (last_behind index last) greatest
@@ -211,7 +200,7 @@ laid greatest last (e ∷ es) valid over within = (
   zipped-as (IsLaid greatest (last_behind e.index last)) (IsLaid greatest last) es
       (filled_above (last_behind e.index last) es)
       (λ x y c is. (is.0, laid-later greatest last e.index x y x.index valid is.1))
-      (laid greatest (last_behind e.index last) es (last-valid e.index last valid)
+      (laid greatest (last_behind e.index last) es (last-key e.index last valid)
       (last-above e.index last greatest valid over) (λ x k c is. within x k (Contains-cons e es x c) is)),
 )
 
@@ -267,8 +256,8 @@ filled-alike greatest last low (e ∷ es) valid over rises within =
           (filled_above next es)
           (λ x y c is. compared greatest last e x y e.index x.index valid over refl refl own is.0.0 is.1
           (above e.id None es x rest c))
-          (laid greatest next es (last-valid e.index last valid) (last-above e.index last greatest valid over) others),
-      filled-alike greatest next (Some e.id) es (last-valid e.index last valid)
+          (laid greatest next es (last-key e.index last valid) (last-above e.index last greatest valid over) others),
+      filled-alike greatest next (Some e.id) es (last-key e.index last valid)
           (last-above e.index last greatest valid over) rest others,
     )
 

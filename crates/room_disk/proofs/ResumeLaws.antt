@@ -5,13 +5,12 @@ use Rattle.std.proofs.lemmas.Bool.{and_from, and_parts, cases_Bool, cond-true, c
 use Rattle.frac_keys.specs.Between.{key_between, keys_above, keys_between}
 use Rattle.frac_keys.specs.Keys.{bytes_less}
 use Rattle.frac_keys.specs.Rising.{ends_rise, is_key_or_none, rise_between, are_rising}
-use Rattle.frac_keys.proofs.CallerLemmas.{key_between-law, keys_between-law}
+use Rattle.frac_keys.proofs.CallerLemmas.{key_between-law, keys_between-law, bytes_less-trans, bytes_less-turned, ends_rise-none}
 use Rattle.std.proofs.lemmas.List.Elements.{All-nil, All-cons, All-head, All-tail}
 use Rattle.elem.specs.ElementValue.{ElementValue}
 use Rattle.elem_read.specs.Reading.{IsWholeElement}
 use Rattle.elem_read.proofs.CallerLemmas.{IsSound}
 use Rattle.scene_file.proofs.CallerLemmas.{AreSound, sound-with, sounds-whole, wholes-sound, keys-or-none}
-use Rattle.elem.proofs.CallerLemmas.{bytes_less-trans, bytes_less-turned}
 use Rattle.json_text.proofs.CallerLemmas.{bytes_eq-true}
 use Rattle.elem_store.specs.Stock.{Held}
 use Rattle.elem_store.specs.Updates.{ids_of, AreStored}
@@ -30,7 +29,7 @@ is-filled : (index last : Option (List ℕ)) (e : ElementValue) → IsFilled ind
 is-filled (Some key) last e = refl
 is-filled None last e = (key_between last None, refl)
 
-same-id : (index last : Option (List ℕ)) (e : ElementValue) → (with_key_above index last e).id ≡ e.id
+pub same-id : (index last : Option (List ℕ)) (e : ElementValue) → (with_key_above index last e).id ≡ e.id
 same-id (Some key) last e = refl
 same-id None last e = refl
 
@@ -138,31 +137,28 @@ greatest-key low (e ∷ elements) h k =
     let parts = and_parts (is_key_or_none e.index) (list_all is_key_or_none (map index_of elements)) k in
     greatest-key (greater_key low e.index) elements (greater-key low e.index h parts.0) parts.1
 
-open-end : (a : Option (List ℕ)) → ends_rise a None ≡ true
-open-end None = refl
-open-end (Some a) = refl
-
 -- the new keys rise above the greatest
 pub new-rise : (elements : List ElementValue) → list_all is_key_or_none (map index_of elements) ≡ true
     → rise_between (greatest_key None elements) None
     (keys_between (greatest_key None elements) None (keyless_count elements)) ≡ true
 new-rise elements keys =
     (keys_between-law (greatest_key None elements) None (keyless_count elements) (greatest-key None elements refl keys)
-    refl (open-end (greatest_key None elements))).rise
+    refl (ends_rise-none (greatest_key None elements))).rise
 
 -- ---- whole elements stay whole
 one-sound : (index last : Option (List ℕ)) (e : ElementValue) → is_key_or_none last ≡ true → IsSound e
     → IsSound (with_key_above index last e)
 one-sound (Some key) last e h sound = sound
 one-sound None last e h sound =
-    let between = key_between-law last None h refl (open-end last) in
+    let between = key_between-law last None h refl (ends_rise-none last) in
     sound-with e (Some (key_between last None)) e.groups e.frame e.bound e.container e.start_binding e.end_binding sound
     between.key
     sound.written.groups sound.written.frame sound.written.bound (inl refl) (inl refl) (inl refl)
 
-last-key : (index last : Option (List ℕ)) → is_key_or_none last ≡ true → is_key_or_none (last_behind index last) ≡ true
+pub last-key : (index last : Option (List ℕ)) → is_key_or_none last ≡ true
+    → is_key_or_none (last_behind index last) ≡ true
 last-key (Some key) last h = h
-last-key None last h = (key_between-law last None h refl (open-end last)).key
+last-key None last h = (key_between-law last None h refl (ends_rise-none last)).key
 
 filled-sound : (last : Option (List ℕ)) (elements : List ElementValue) → is_key_or_none last ≡ true → AreSound elements
     → AreSound (filled_above last elements)

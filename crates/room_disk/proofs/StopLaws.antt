@@ -1,5 +1,5 @@
 -- What is recovered of the records of a run, wherever it was stopped.
-use Rattle.std.proofs.Common.{◌≡◌, ℕ, zero, suc, ◌≤◌, List, [], ◌∷◌, ◌++◌, length, take, map, flat_map, All, Result, Ok, refl, sym, ap, ◌∙◌, subst, arith}
+use Rattle.std.proofs.Common.{◌≡◌, ℕ, zero, suc, ◌≤◌, List, [], ◌∷◌, ◌++◌, length, take, map, All, Result, Ok, refl, sym, ap, ◌∙◌, subst, arith}
 use Rattle.std.specs.List.{AllByRecursion}
 use Rattle.std.proofs.lemmas.List.Elements.{All-head, All-tail, All-take}
 use Rattle.elem.specs.ElementValue.{ElementValue}
@@ -19,9 +19,7 @@ use Rattle.intake.proofs.CallerLemmas.{NoFeed}
 use Rattle.room_disk.proofs.Cuts.{IsCut, cut}
 use Rattle.room_disk.proofs.Once.{kept-answer}
 use Rattle.room_disk.proofs.Written.{AreReadBack, state-none, update-none, opening-read, updates-read}
-
-abbrev all : List (List ElementValue) → List ElementValue
-all messages = flat_map (λ (es : List ElementValue). es) messages
+use Rattle.room_disk.proofs.KeptLines.{all}
 
 -- ---- the texts of the records
 abbrev texts : Heading → List ElementValue → List (List ElementValue) → List (List ℕ)

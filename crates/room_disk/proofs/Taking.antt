@@ -1,5 +1,5 @@
 -- One line more of a journal.
-use Rattle.std.proofs.Common.{◌≡◌, ℕ, ◌+◌, List, [], ◌∷◌, ◌++◌, length, Option, Some, None, is_some, true, Result, Ok, Err, IfOk, OnOk, sym, subst, ap, ◌∙◌, arith, length-append}
+use Rattle.std.proofs.Common.{◌≡◌, ℕ, ◌+◌, List, [], ◌∷◌, ◌++◌, length, Option, Some, None, is_some, true, Result, Ok, Err, IfOk, sym, subst, ap, ◌∙◌, arith, length-append}
 use Rattle.std.proofs.lemmas.List.{nil_from_length}
 use Rattle.elem.specs.ElementValue.{ElementValue}
 use Rattle.room_msg.specs.Messages.{StandsAlone}
@@ -82,9 +82,6 @@ take-more lines line old new (Some fault) some was is to =
     (faulty-more lines line fault (subst (IsReadBy lines old.head old.store.elements old.lines) was to))
 
 -- ---- what holds of an answer
-pub ok-then : {T E P Q : Type 0} (r : Result T E) → (P → Q) → OnOk r P → OnOk r Q
-ok-then (Ok x) f p = f p
-ok-then (Err e) f p = tt
 
 pub if-then : {T E : Type 0} (P Q : T → Type 0) (r : Result T E) → ((x : T) → P x → Q x) → IfOk r P → IfOk r Q
 if-then P Q (Ok x) f p = f x p

@@ -7,10 +7,9 @@ use Rattle.std.proofs.lemmas.Map.Made.{IsDistinct-from_count}
 use Rattle.json_text.specs.Compact.{Member as Pair, array_text, object_text}
 use Rattle.json_text.specs.Parts.{AreMembers}
 use Rattle.json_text.specs.Value.{IsCompact}
-use Rattle.json_text.proofs.CallerLemmas.{Value-deeper, quote-compact, array-compact, object-compact}
+use Rattle.json_text.proofs.CallerLemmas.{Value-deeper, quote-compact, array-compact, object-compact, ascii-utf8}
 use Rattle.elem.specs.ElementValue.{ElementValue}
 use Rattle.elem.specs.Texts.{element_text}
-use Rattle.elem.proofs.CallerLemmas.{literal}
 use Rattle.elem_read.specs.Reading.{IsWholeElement}
 use Rattle.elem_read.proofs.CallerLemmas.{AreRead-texts}
 use Rattle.room_msg.specs.Messages.{init_tag, update_tag, HasElements, StandsAlone, IsReadAs, IsWholeMessage}
@@ -39,7 +38,7 @@ inner-are : (limit : ℕ) (elements : List ElementValue) → 121 ≤ limit → A
     → AreMembers limit (inner elements)
 unfolding inner
 inner-are limit elements deep whole = record {
-  named = (literal (codes "elements") refl, tt);
+  named = (ascii-utf8 (codes "elements") refl, tt);
   valued = (
     Value-deeper deep (array-compact 120 (map element_text elements)
         (elements-compact 120 elements (lit≤ tt) whole)),
@@ -52,7 +51,7 @@ tagged-are : (tag : List ℕ) (elements : List ElementValue) → IsUtf8 tag → 
     → AreMembers 127 (tagged_members tag elements)
 unfolding inner
 tagged-are tag elements utf8 whole = record {
-  named = (literal (codes "type") refl, (literal (codes "payload") refl, tt));
+  named = (ascii-utf8 (codes "type") refl, (ascii-utf8 (codes "payload") refl, tt));
   valued = (
     quote-compact 127 tag utf8,
     (Value-deeper (lit≤ tt) (object-compact 121 (inner elements) (inner-are 121 elements (lit≤ tt) whole)), tt),
@@ -88,13 +87,13 @@ tagged-alone tag elements utf8 whole =
 pub read-back : (message : Message) → IsWholeMessage message → IsReadAs (message_text message) (Ok message)
 unfolding message_text
 read-back (Init elements) whole =
-    let utf8 = literal init_tag refl in (
+    let utf8 = ascii-utf8 init_tag refl in (
       object_text (tagged_members init_tag elements),
       tagged-alone init_tag elements utf8 whole,
       has-elements init_tag elements utf8 whole,
     )
 read-back (Update elements) whole =
-    let utf8 = literal update_tag refl in (
+    let utf8 = ascii-utf8 update_tag refl in (
       object_text (tagged_members update_tag elements),
       tagged-alone update_tag elements utf8 whole,
       has-elements update_tag elements utf8 whole,

@@ -2,13 +2,14 @@
 use Rattle.std.proofs.Common.{◌≡◌, ◌⊎◌, inl, inr, ℕ, List, Option, Some, None, Result, Ok, Err, length, drop, length-drop, ◌+◌, codes, bytes_eq, refl, sym, ap, subst, ◌∙◌, lit≤, arith}
 use Rattle.std.specs.List.{AllByRecursion, prefix_len}
 use Rattle.std.proofs.lemmas.Bool.{cases_Bool, cases_lt, both_ways}
+use Rattle.std.proofs.lemmas.Option.{same_Some}
 use Rattle.json_text.specs.Characters.{is_space}
 use Rattle.json_text.specs.Compact.{Member as Pair, array_text}
 use Rattle.json_text.specs.Parts.{AreMembers}
 use Rattle.json_text.specs.Value.{IsCompact}
 use Rattle.json_reader.specs.declared.fault.JsonFault.TheVariants.{Syntax}
 use Rattle.scene_json.specs.Named.{value_at}
-use Rattle.json_text.proofs.CallerLemmas.{bytes_eq-true, bytes_eq-same, Value-compact, array-or-not, object-or-not}
+use Rattle.json_text.proofs.CallerLemmas.{bytes_eq-true, bytes_eq-same, Value-compact, array-or-not, object-or-not, run-blank}
 use Rattle.json_reader.proofs.CallerLemmas.{value-or-fault}
 use Rattle.elem.specs.ElementValue.{ElementValue}
 use Rattle.elem.specs.Forms.{IsObject}
@@ -20,10 +21,6 @@ use Rattle.room_msg.specs.declared.fault.MsgFault.{MsgFault}
 use Rattle.room_msg.specs.declared.fault.MsgFault.TheVariants.{Json, NotObject, Tag, Payload, Element}
 use Rattle.room_msg.specs.declared.message.Message.{Message}
 use Rattle.room_msg.specs.declared.message.Message.TheVariants.{Init, Update, Presence}
-use Rattle.room_msg.proofs.Blanks.{run-blank}
-
-same-some : {A : Type 0} {x y : A} → Some x ≡ Some y → x ≡ y
-same-some e = cc
 
 -- ---- the payload
 object-found : (found : Option (List ℕ)) → Fits found → ((value : List ℕ) × (members : List Pair) × (found ≡ Some value)
@@ -32,7 +29,7 @@ object-found : (found : Option (List ℕ)) → Fits found → ((value : List ℕ
 object-found None fits = inr (λ value members e is. cc)
 object-found (Some value) fits = elim (object-or-not value fits) [
   | inl (members, are, e) ↦ inl (value, members, refl, record { are_members = are; spelled = e })
-  | inr none ↦ inr (λ other members e is. none members (same-some e ∙ is.spelled))
+  | inr none ↦ inr (λ other members e is. none members (same_Some _ _ e ∙ is.spelled))
 ]
 
 array-found : (found : Option (List ℕ)) → Fits found
@@ -40,7 +37,7 @@ array-found : (found : Option (List ℕ)) → Fits found
 array-found None fits = inr (λ values has. let e = has.1 in cc)
 array-found (Some value) fits = elim (array-or-not value fits) [
   | inl (values, all, e) ↦ inl (values, (all, ap Some e))
-  | inr none ↦ inr (λ values has. none values (same-some has.1))
+  | inr none ↦ inr (λ values has. none values (same_Some _ _ has.1))
 ]
 
 payload-or-not : (members : List Pair) → AreMembers 127 members → Decided (HasPayload members)
@@ -65,7 +62,7 @@ payload-or-not members are =
             },
           )
           | inr none ↦ inr (λ values has.
-              let text = same-some (sym has.named ∙ named) in
+              let text = same_Some _ _ (sym has.named ∙ named) in
               let same =
               members-once payload has.others others (subst (λ t. IsObject t has.others) text has.object) object in
               none values (has.compact, sym (ap (value_at (codes "elements")) same) ∙ has.array))

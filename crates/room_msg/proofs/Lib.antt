@@ -1,5 +1,4 @@
 pub mod Back
-pub mod Blanks
 pub mod Existing
 pub mod Once
 pub mod Told

@@ -9,7 +9,7 @@ use Rattle.json_reader.specs.Faults.{IsFirstFault}
 use Rattle.json_reader.specs.declared.fault.JsonFault.{JsonFault}
 use Rattle.json_reader.specs.declared.fault.JsonFault.TheVariants.{Syntax}
 use Rattle.scene_json.specs.Named.{value_at}
-use Rattle.json_text.proofs.CallerLemmas.{Stands-once}
+use Rattle.json_text.proofs.CallerLemmas.{Stands-once, blank-run}
 use Rattle.json_reader.proofs.CallerLemmas as json
 use Rattle.elem.specs.ElementValue.{ElementValue}
 use Rattle.elem.specs.Forms.{IsObject}
@@ -22,7 +22,6 @@ use Rattle.room_msg.specs.declared.fault.MsgFault.{MsgFault}
 use Rattle.room_msg.specs.declared.fault.MsgFault.TheVariants.{Json, NotObject, Tag, Payload, Element}
 use Rattle.room_msg.specs.declared.message.Message.{Message}
 use Rattle.room_msg.specs.declared.message.Message.TheVariants.{Init, Update, Presence}
-use Rattle.room_msg.proofs.Blanks.{blank-run}
 
 abbrev Answer : Type 0
 Answer = Result Message MsgFault

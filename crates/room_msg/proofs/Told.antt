@@ -3,16 +3,16 @@ use Rattle.std.proofs.Common.{◌≡◌, ◌⊎◌, ℕ, List, Some, Err, true, 
 use Rattle.std.specs.List.{list_all}
 use Rattle.json_text.specs.Characters.{quote}
 use Rattle.json_text.specs.Compact.{Member as Pair}
+use Rattle.json_text.proofs.CallerLemmas.{ascii-utf8}
 use Rattle.scene_json.specs.Named.{value_at}
 use Rattle.elem.specs.Forms.{IsObject}
-use Rattle.elem.proofs.CallerLemmas.{literal}
 use Rattle.room_msg.specs.Messages.{init_tag, update_tag, HasTag, IsPresence, IsPayloadFault, IsMessageFault, StandsAlone, IsReadAs}
 use Rattle.room_msg.specs.declared.fault.MsgFault.{MsgFault}
 use Rattle.room_msg.specs.declared.fault.MsgFault.TheVariants.{Json, NotObject, Tag, Payload, Element}
 
 pub has-tag : (members : List Pair) (tag : List ℕ) → list_all (λ b. nat_lt b 128) tag ≡ true
     → value_at (codes "type") members ≡ Some (quote tag) → HasTag members tag
-has-tag members tag ascii found = (literal tag ascii, found)
+has-tag members tag ascii found = (ascii-utf8 tag ascii, found)
 
 pub presence : (text : List ℕ) (members : List Pair) (tag : List ℕ) → IsObject text members → HasTag members tag
     → (value_at (codes "type") members ≡ Some (quote init_tag) → ⊥)

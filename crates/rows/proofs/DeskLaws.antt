@@ -1,20 +1,17 @@
 -- What holds of a desk after each call on it.
-use Rattle.std.proofs.Common.{◌≡◌, ℕ, Bool, true, false, ◌&&◌, if◌then◌else◌, List, [], ◌∷◌, Option, Some, None, IsSome, Result, Ok, Err, OnOk, OnErr, IfErr, Contains, refl, sym, ap, ◌∙◌, subst, inl, inr, arith}
-use Rattle.std.proofs.lemmas.List.Elements.{Contains-push_cases}
+use Rattle.std.proofs.Common.{◌≡◌, ℕ, Bool, true, false, ◌&&◌, if◌then◌else◌, List, [], ◌∷◌, Some, None, IsSome, Result, Ok, Err, OnOk, IfErr, refl, sym, ap, ◌∙◌, subst}
 use Rattle.std.proofs.lemmas.Option.{none-some}
-use Rattle.board_base.specs.declared.stop.Stop.{Stop}
 use Rattle.elem.specs.ElementValue.{ElementValue}
 use Rattle.elem.specs.Order.{has_id}
 use Rattle.elem_store.specs.Updates.{HasTaken, is_taken, element_of}
 use Rattle.delta.specs.Delta.{Delta}
 use Rattle.delta.specs.Pairs.{EntryStandsFor}
-use Rattle.delta.specs.declared.stamping.VersionFull.{VersionFull}
 use Rattle.history.specs.declared.planned.Direction.{Direction}
 use Rattle.history.specs.declared.planned.Direction.TheVariants.{Undo, Redo}
 use Rattle.history.specs.declared.step.Step.{Step}
 use Rattle.history.specs.declared.step.Step.TheVariants.{Done, Nothing}
-use Rattle.history.specs.Stacks.{Stacks, HasStoredIds, HaveStoredIds, HasTakenBack, noted, side, with_entry, redo_left}
-use Rattle.history.proofs.CallerLemmas.{ids-stored, ids-taken}
+use Rattle.history.specs.Stacks.{Stacks, HaveStoredIds, HasTakenBack, noted, side}
+use Rattle.history.proofs.CallerLemmas.{ids-stored, ids-taken, left-ids, noted-ids}
 use Rattle.snapshot.specs.Pending.{pairs_since}
 use Rattle.snapshot.specs.Touched.{AreUntouched, HasTouched}
 use Rattle.snapshot.proofs.CallerLemmas.{since-stored}
@@ -58,30 +55,12 @@ pub captured-desk : (stored snapshot : List ElementValue) (stacks : Stacks) → 
     → IsDesk stored stored stacks
 captured-desk stored snapshot stacks desk = record { known = λ id some. some; undo = desk.undo; redo = desk.redo }
 
-pub captured-untouched : (ids : List (List ℕ)) (snapshot stored : List ElementValue) → snapshot ≡ stored
-    → AreUntouched ids snapshot stored
-captured-untouched ids snapshot stored same id f = ap (λ es. element_of es id) same
-
-with-ids : (stored : List ElementValue) (entry : List Delta) (stack : List (List Delta)) → HasStoredIds stored entry
-    → HaveStoredIds stored stack → HaveStoredIds stored (with_entry entry stack)
-with-ids stored [] stack own ids parts c = ids parts c
-with-ids stored (part ∷ more) stack own ids parts c =
-    elim (Contains-push_cases stack (part ∷ more) parts c) [
-      | inl earlier ↦ ids parts earlier
-      | inr same ↦ subst (HasStoredIds stored) same own
-    ]
-
-left-ids : (stored : List ElementValue) (entry : List Delta) (stack : List (List Delta)) → HaveStoredIds stored stack
-    → HaveStoredIds stored (redo_left entry stack)
-left-ids stored [] stack ids parts c = ids parts c
-left-ids stored (part ∷ more) stack ids parts c = absurd (omega (arith, c.1))
-
 pub noted-desk : (stored snapshot before : List ElementValue) (stacks : Stacks) (entry : List Delta)
     → EntryStandsFor entry (pairs_since before stored) → IsDesk stored snapshot stacks
     → IsDesk stored snapshot (noted entry stacks)
 noted-desk stored snapshot before stacks entry stands desk = record {
   known = desk.known;
-  undo = with-ids stored entry stacks.undo (λ part c. since-stored entry before stored part stands c) desk.undo;
+  undo = noted-ids stored entry stacks.undo (λ part c. since-stored entry before stored part stands c) desk.undo;
   redo = left-ids stored entry stacks.redo desk.redo;
 }
 

@@ -37,7 +37,7 @@ joined-exists heads =
     )
 
 -- ---- what is given
-fits-value_unless_null : (name : List ℕ) (members : List Pair) → AreMembers 127 members
+pub fits-value_unless_null : (name : List ℕ) (members : List Pair) → AreMembers 127 members
     → Fits (value_unless_null name members)
 fits-value_unless_null name members are =
     elim (value_at name members) as (λ (found : Option (List ℕ)). Fits found
@@ -47,26 +47,26 @@ fits-value_unless_null name members are =
           [ true ↦ tt | false ↦ fits ]
     ] (fits-in 127 members (lit≤ tt) are name)
 
-items-or-not : (found : Option (List ℕ)) → Fits found → Decided (HasItems found)
+pub items-or-not : (found : Option (List ℕ)) → Fits found → Decided (HasItems found)
 items-or-not None fits = inl ([], refl)
 items-or-not (Some value) fits = elim (array-or-not value fits) [
   | inl (items, all, e) ↦ inl (items, (all, e))
   | inr none ↦ inr (λ items has. none items has.1)
 ]
 
-members-or-not : (found : Option (List ℕ)) → Fits found → Decided (HasMembers found)
+pub members-or-not : (found : Option (List ℕ)) → Fits found → Decided (HasMembers found)
 members-or-not None fits = inl ([], refl)
 members-or-not (Some value) fits = elim (object-or-not value fits) [
   | inl (members, are, e) ↦ inl (members, record { are_members = are; spelled = e })
   | inr none ↦ inr (λ members has. none members has.spelled)
 ]
 
-items-compact : (found : Option (List ℕ)) (values : List (List ℕ)) → HasItems found values
+pub items-compact : (found : Option (List ℕ)) (values : List (List ℕ)) → HasItems found values
     → AllByRecursion (IsCompact 127) values
 items-compact None values none = subst (AllByRecursion (IsCompact 127)) (sym none) tt
 items-compact (Some value) values has = has.0
 
-is-text : (found : Option (List ℕ)) (wanted : List ℕ) → Fits found → IsText found wanted ⊎ (IsText found wanted → ⊥)
+pub is-text : (found : Option (List ℕ)) (wanted : List ℕ) → Fits found → IsText found wanted ⊎ (IsText found wanted → ⊥)
 is-text found wanted fits = by (text-or-not found fits)
   where
     by : Decided (IsText found) → IsText found wanted ⊎ (IsText found wanted → ⊥)
@@ -164,7 +164,7 @@ scene-or-faulty text is = by (object-or-not text is)
               (fits-value_unless_null (codes "files") members are))
         ]
 
-fault-at : (bytes : List ℕ) (at : ℕ) (text rest : List ℕ) (fault : SceneFault) → Stands (drop at bytes) text rest
+pub fault-at : (bytes : List ℕ) (at : ℕ) (text rest : List ℕ) (fault : SceneFault) → Stands (drop at bytes) text rest
     → IsSceneFault text fault → IsSceneFaultAt bytes at fault
 fault-at bytes at text rest (Json fault) stands is = absurd is
 fault-at bytes at text rest NotObject stands is = (text, rest, stands, is)

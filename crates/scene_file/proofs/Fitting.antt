@@ -80,7 +80,7 @@ pub record IsFit (head : Heading) : Type 0 where
   pub settings : AllFit (pairs head.app_state)
   pub files : AllFit head.files
 
-fit-members : (ms : List Pair) → AreMembers 126 ms → AllFit ms
+pub fit-members : (ms : List Pair) → AreMembers 126 ms → AllFit ms
 fit-members ms are = by ms are.named are.valued
   where
     by : (ms : List Pair) → AllByRecursion (λ (m : Pair). IsUtf8 m.0) ms
@@ -107,7 +107,7 @@ fit-found ms rise each = by ms (found-self ms (rising_distinct ms rise))
     by [] here = tt
     by (o ∷ os) here = (each o.0 o.1 here.0, by os here.1)
 
-source-fits : (found source : Option (List ℕ)) → IsSource found source → IfSome source IsUtf8
+pub source-fits : (found source : Option (List ℕ)) → IsSource found source → IfSome source IsUtf8
 source-fits found None is = tt
 source-fits found (Some source) is = is.0
 
@@ -136,7 +136,7 @@ scene-sound text scene is = record {
 }
 
 -- ---- the joined head
-lesser-fits : (source other : Option (List ℕ)) → IfSome source IsUtf8 → IfSome other IsUtf8
+pub lesser-fits : (source other : Option (List ℕ)) → IfSome source IsUtf8 → IfSome other IsUtf8
     → IfSome (lesser_source source other) IsUtf8
 lesser-fits None other first second = second
 lesser-fits (Some source) None first second = first
@@ -178,7 +178,7 @@ joined-fits heads head all is = record {
 }
 
 -- ---- the text of a scene
-source-compact : (source : Option (List ℕ)) → IfSome source IsUtf8 → IsCompact 0 (text_or_null source)
+pub source-compact : (source : Option (List ℕ)) → IfSome source IsUtf8 → IsCompact 0 (text_or_null source)
 source-compact None is = literal-compact 0 _ (inr (inl refl))
 source-compact (Some source) is = quote-compact 0 source is
 

@@ -49,7 +49,7 @@ lesser_source-assoc (Some a) (Some b) (Some c) = go (is_lesser c b) (is_lesser b
     go false false h k = cond-false (is_lesser b a) (Some b) (Some a) k
         ∙ sym (cond-false (is_lesser c a) (Some c) (Some a) (lesser_order.chain c b a h k))
 
-least_source-more : (heads : List Heading) (other : Heading)
+pub least_source-more : (heads : List Heading) (other : Heading)
     → least_source (heads ++ other ∷ []) ≡ lesser_source (least_source heads) other.source
 least_source-more [] other = lesser_source-none other.source
 least_source-more (head ∷ heads) other =
@@ -58,7 +58,7 @@ least_source-more (head ∷ heads) other =
 
 -- ---- heads
 module _ (part : Heading → List Pair) where
-  all-more : (heads : List Heading) (other : Heading) → flat_map part (heads ++ other ∷ []) ≡ flat_map part heads
+  pub all-more : (heads : List Heading) (other : Heading) → flat_map part (heads ++ other ∷ []) ≡ flat_map part heads
       ++ part other
   all-more heads other =
       flat_map-append part heads (other ∷ []) ∙ ap (λ more. flat_map part heads ++ more) (append-nil (part other))

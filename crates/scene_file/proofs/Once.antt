@@ -1,10 +1,9 @@
 -- A scene and a fault are determined by the text, and a joined head by the heads.
-use Rattle.std.proofs.Common.{◌≡◌, ℕ, List, [], ◌∷◌, Option, Some, None, true, codes, drop, refl, sym, ap, ap₂, ◌∙◌, subst}
+use Rattle.std.proofs.Common.{◌≡◌, ℕ, List, [], Option, Some, None, true, codes, drop, refl, sym, ap, ap₂, ◌∙◌, subst}
 use Rattle.json_text.specs.Characters.{is_blank}
 use Rattle.json_text.specs.Compact.{Member as Pair}
 use Rattle.json_text.specs.Members.{pairs}
 use Rattle.json_text.specs.Value.{Stands}
-use Rattle.json_text.specs.declared.text.Member.{Member}
 use Rattle.json_reader.specs.Faults.{IsFirstFault}
 use Rattle.json_reader.specs.declared.fault.JsonFault.{JsonFault}
 use Rattle.scene_json.specs.Named.{value_at}
@@ -12,7 +11,7 @@ use Rattle.json_text.proofs.CallerLemmas.{Stands-once}
 use Rattle.json_reader.proofs.CallerLemmas as json
 use Rattle.scene_json.proofs.CallerLemmas.{rising_same}
 use Rattle.elem.specs.Forms.{IsObject}
-use Rattle.elem.proofs.CallerLemmas.{text-once, members-once, array-once}
+use Rattle.elem.proofs.CallerLemmas.{text-once, members-once, array-once, pairs-once}
 use Rattle.elem_read.specs.Elements.{IsFirstFaulty, AreRead}
 use Rattle.elem_read.specs.declared.fault.ElemFault.{ElemFault}
 use Rattle.elem_read.proofs.CallerLemmas.{read-once, faulty-once, faultless}
@@ -31,26 +30,14 @@ source-once found None (Some text) one two = absurd (one text two)
 source-once found (Some text) None one two = absurd (two text one)
 source-once found (Some text) (Some other) one two = ap Some (text-once found text other one two)
 
-value_unless_null-once : (found : Option (List ℕ)) (ms ns : List Pair) → HasMembers found ms → HasMembers found ns
+pub value_unless_null-once : (found : Option (List ℕ)) (ms ns : List Pair) → HasMembers found ms → HasMembers found ns
     → ms ≡ ns
 value_unless_null-once None ms ns one two = one ∙ sym two
 value_unless_null-once (Some value) ms ns one two = members-once value ms ns one two
 
-items-once : (found : Option (List ℕ)) (vs ws : List (List ℕ)) → HasItems found vs → HasItems found ws → vs ≡ ws
+pub items-once : (found : Option (List ℕ)) (vs ws : List (List ℕ)) → HasItems found vs → HasItems found ws → vs ≡ ws
 items-once None vs ws one two = one ∙ sym two
 items-once (Some value) vs ws one two = array-once vs ws one.0 two.0 (sym one.1 ∙ two.1)
-
-pairs-once : (xs ys : List Member) → pairs xs ≡ pairs ys → xs ≡ ys
-pairs-once [] [] e = refl
-pairs-once [] (y ∷ ys) e = cc
-pairs-once (x ∷ xs) [] e = cc
-pairs-once (x ∷ xs) (y ∷ ys) e =
-    let first : (x.name, x.value) ≡ (y.name, y.value) = ap (λ ps. head_or ps (x.name, x.value)) e in
-    ap₂ (λ z zs. z ∷ zs) (λ i. record { name = (first i).0; value = (first i).1 }) (pairs-once xs ys (ap (drop 1) e))
-  where
-    head_or : List Pair → Pair → Pair
-    head_or [] p = p
-    head_or (q ∷ qs) p = q
 
 -- ---- heads and scenes
 head_of-once : (members : List Pair) (head other : Heading) → IsHeadOf members head → IsHeadOf members other

@@ -12,14 +12,14 @@ use Rattle.json_text.specs.Tree.{IsNumber, null_word, scalar, spelling}
 use Rattle.json_text.specs.Value.{Value, IsCompact, Follows}
 use Rattle.scene_json.specs.Layout.{laid_out}
 use Rattle.scene_json.specs.Named.{AreSameMembers, HaveRisingNames}
-use Rattle.json_text.proofs.CallerLemmas.{Value-deeper, quote-compact, literal-compact, object-compact, object-starts, number-Head, head-apart}
+use Rattle.json_text.proofs.CallerLemmas.{Value-deeper, object-compact, object-starts, number-Head, head-apart, ascii-utf8}
 use Rattle.scene_json.proofs.CallerLemmas.{laid-Value}
 use Rattle.elem.specs.ElementValue.{ElementValue}
 use Rattle.elem.specs.Forms.{IsObject}
 use Rattle.elem.specs.Texts.{element_text, text_or_null}
-use Rattle.elem.proofs.CallerLemmas.{null-no-text, literal, AreMembers-deeper}
-use Rattle.elem_read.specs.Elements.{AreRead}
+use Rattle.elem.proofs.CallerLemmas.{null-no-text, AreMembers-deeper}
 use Rattle.elem_read.specs.Reading.{IsWholeElement}
+use Rattle.elem_read.proofs.CallerLemmas.{AreRead-texts}
 use Rattle.file_table.specs.References.{referred_files}
 use Rattle.scene_file.specs.Heads.{Heading}
 use Rattle.scene_file.specs.Layouts.{IsWrittenIn}
@@ -32,13 +32,14 @@ use Rattle.scene_file.specs.declared.layout.Layout.TheVariants.{Compact, Pretty}
 use Rattle.scene_file.specs.declared.scene.Scene.{Scene}
 use Rattle.scene_file.proofs.NamedFiles.{named-same, named-rise, named-again, referred-are}
 use Rattle.scene_file.proofs.SceneTexts.{scene-are, trees-once}
+use Rattle.scene_file.proofs.Fitting.{source-compact}
 
 -- ---- what is given under the names of a scene
 object-no-null : (ms : List Pair) → bytes_eq (object_text ms) null_word ≡ false
 unfolding object_text
 object-no-null ms = refl
 
-array-no-null : (ts : List (List ℕ)) → bytes_eq (array_text ts) null_word ≡ false
+pub array-no-null : (ts : List (List ℕ)) → bytes_eq (array_text ts) null_word ≡ false
 unfolding array_text
 array-no-null ts = refl
 
@@ -63,15 +64,6 @@ source-read None is = λ text found. null-no-text (Some null_word) text (inr ref
 source-read (Some text) is = (is, refl)
 
 -- ---- elements
-all-read : (elements : List ElementValue) → All IsWholeElement elements → AreRead (map element_text elements) elements
-all-read [] whole = refl
-all-read (e ∷ elements) whole = inr (
-  e,
-  elements,
-  refl,
-  All-head IsWholeElement e elements whole,
-  all-read elements (All-tail IsWholeElement e elements whole),
-)
 
 texts-nest : (elements : List ElementValue) → All IsWholeElement elements
     → AllByRecursion (IsCompact 127) (map element_text elements)
@@ -82,9 +74,6 @@ texts-nest (e ∷ elements) whole = (
 )
 
 -- ---- the scene
-source-compact : (source : Option (List ℕ)) → IfSome source IsUtf8 → IsCompact 0 (text_or_null source)
-source-compact None is = literal-compact 0 null_word (inr (inl refl))
-source-compact (Some text) is = quote-compact 0 text is
 
 module _ (head : Heading) (elements : List ElementValue) (files : List Pair) (whole : IsWholeHead head)
     (each : All IsWholeElement elements) (are : AreMembers 126 files) where
@@ -104,7 +93,7 @@ module _ (head : Heading) (elements : List ElementValue) (files : List Pair) (wh
   scene-said kept keys rise same = record {
     members = scene_members head elements files;
     object = record { are_members = members-are; spelled = refl };
-    kind = (literal (codes "excalidraw") refl, refl);
+    kind = (ascii-utf8 (codes "excalidraw") refl, refl);
     head = record {
       source = source-read head.source whole.source;
       settings = pairs head.app_state;
@@ -119,7 +108,7 @@ module _ (head : Heading) (elements : List ElementValue) (files : List Pair) (wh
     values = map element_text elements;
     items = items-given (map element_text elements) (texts-nest elements each);
     elements = elements;
-    read = all-read elements each;
+    read = AreRead-texts elements each;
     are_loaded = sym (cond-true (list_all _ elements) elements _ keys);
   }
 

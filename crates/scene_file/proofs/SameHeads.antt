@@ -1,13 +1,15 @@
 -- The joined head of the same heads in another order.
-use Rattle.std.proofs.Common.{◌≡◌, ◌↔◌, ℕ, false, ◌⊎◌, inl, inr, List, [], ◌∷◌, ◌++◌, Option, Some, None, All, Contains, IfSome, refl, sym, ap, ◌∙◌, subst, arith}
+use Rattle.std.proofs.Common.{◌≡◌, ◌↔◌, ℕ, false, inl, inr, List, [], ◌∷◌, Option, Some, None, All, Contains, IfSome, refl, sym, ap, ◌∙◌, subst, arith}
 use Rattle.std.specs.List.{flat_map}
 use Rattle.std.specs.Str.{IsUtf8}
 use Rattle.std.proofs.lemmas.Bool.{cases_Bool, cond-true, cond-false}
-use Rattle.std.proofs.lemmas.List.Elements.{All-contains}
+use Rattle.std.proofs.lemmas.List.Elements.{All-contains, Contains-append_left, Contains-append_right, Contains-append_cases}
+use Rattle.std.proofs.lemmas.Option.{same_Some}
 use Rattle.json_text.specs.Characters.{quote}
 use Rattle.json_text.specs.Members.{pairs}
 use Rattle.frac_keys.specs.Keys.{bytes_less}
-use Rattle.elem.proofs.CallerLemmas.{quote-once, bytes-neither, bytes-below, bytes_less-same, bytes_less-asym}
+use Rattle.frac_keys.proofs.CallerLemmas.{bytes-neither, bytes-below, bytes_less_itself, bytes_less-asym}
+use Rattle.scene_json.proofs.CallerLemmas.{quote-once}
 use Rattle.elem_store.proofs.CallerLemmas.{Contains-head, Contains-cons, Contains-cases}
 use Rattle.file_table.proofs.CallerLemmas.{AreLeastEntries-moved}
 use Rattle.scene_file.specs.Heads.{Heading, lesser_source, least_source, settings_of, files_of, IsJoinedHead, IsLeastSource, HaveSameHeads}
@@ -15,36 +17,19 @@ use Rattle.scene_file.specs.Whole.{IsWholeHead}
 use Rattle.scene_file.proofs.WholeScenes.{least-whole}
 
 -- ---- lists that are joined
-in-left : {X : Type 0} (xs ys : List X) (y : X) → Contains xs y → Contains (xs ++ ys) y
-in-left [] ys y h = absurd (omega (arith, h.1))
-in-left (x ∷ xs) ys y h = elim (Contains-cases x xs y h) [
-  | inl e ↦ subst (Contains (x ∷ (xs ++ ys))) e (Contains-head x (xs ++ ys))
-  | inr later ↦ Contains-cons x (xs ++ ys) y (in-left xs ys y later)
-]
-
-in-right : {X : Type 0} (xs ys : List X) (y : X) → Contains ys y → Contains (xs ++ ys) y
-in-right [] ys y h = h
-in-right (x ∷ xs) ys y h = Contains-cons x (xs ++ ys) y (in-right xs ys y h)
-
-in-either : {X : Type 0} (xs ys : List X) (y : X) → Contains (xs ++ ys) y → Contains xs y ⊎ Contains ys y
-in-either [] ys y h = inr h
-in-either (x ∷ xs) ys y h = elim (Contains-cases x (xs ++ ys) y h) [
-  | inl e ↦ inl (subst (Contains (x ∷ xs)) e (Contains-head x xs))
-  | inr later ↦ elim (in-either xs ys y later) [ inl left ↦ inl (Contains-cons x xs y left) | inr right ↦ inr right ]
-]
 
 in-parts : {X Y : Type 0} (f : X → List Y) (xs : List X) (x : X) (y : Y) → Contains xs x → Contains (f x) y
     → Contains (flat_map f xs) y
 in-parts f [] x y h k = absurd (omega (arith, h.1))
 in-parts f (first ∷ xs) x y h k = elim (Contains-cases first xs x h) [
-  | inl e ↦ in-left (f first) (flat_map f xs) y (subst (λ z. Contains (f z) y) (sym e) k)
-  | inr later ↦ in-right (f first) (flat_map f xs) y (in-parts f xs x y later k)
+  | inl e ↦ Contains-append_left (f first) (flat_map f xs) y (subst (λ z. Contains (f z) y) (sym e) k)
+  | inr later ↦ Contains-append_right (f first) (flat_map f xs) y (in-parts f xs x y later k)
 ]
 
 part-of : {X Y : Type 0} (f : X → List Y) (xs : List X) (y : Y) → Contains (flat_map f xs) y → (x : X) × Contains xs x
     × Contains (f x) y
 part-of f [] y h = absurd (omega (arith, h.1))
-part-of f (first ∷ xs) y h = elim (in-either (f first) (flat_map f xs) y h) [
+part-of f (first ∷ xs) y h = elim (Contains-append_cases (f first) (flat_map f xs) y h) [
   | inl here ↦ (first, Contains-head first xs, here)
   | inr there ↦ let found = part-of f xs y there in (found.0, Contains-cons first xs found.0 found.1, found.2)
 ]
@@ -82,9 +67,6 @@ none-least (first ∷ heads) h =
     ap (λ o. lesser_source o (least_source heads)) (h first (Contains-head first heads))
     ∙ none-least heads (λ head c. h head (Contains-cons first heads head c))
 
-same_Some : {a b : List ℕ} → Some a ≡ Some b → a ≡ b
-same_Some h = cc
-
 pub least-is : (heads : List Heading) (source : List ℕ) → least_source heads ≡ Some source → IsLeastSource heads source
 least-is [] source h = absurd (cc)
 least-is (first ∷ heads) source h = go (least-is heads) first.source (least_source heads) refl refl h
@@ -97,8 +79,8 @@ least-is (first ∷ heads) source h = go (least-is heads) first.source (least_so
       among = (first, Contains-head first heads, own);
       least = λ head other c from. elim (Contains-cases first heads head c) [
         | inl e ↦
-            let one : other ≡ a = same_Some (sym from ∙ ap (λ (x : Heading). x.source) (sym e) ∙ own) in
-            subst (λ t. bytes_less (quote t) (quote a) ≡ false) (sym one) (bytes_less-same (quote a))
+            let one : other ≡ a = same_Some _ _ (sym from ∙ ap (λ (x : Heading). x.source) (sym e) ∙ own) in
+            subst (λ t. bytes_less (quote t) (quote a) ≡ false) (sym one) (bytes_less_itself (quote a))
         | inr later ↦ above head other later from
       ];
     })
@@ -121,18 +103,18 @@ least-is (first ∷ heads) source h = go (least-is heads) first.source (least_so
     go again None p own rest is =
         later_is (again source (rest ∙ is)) (λ a own'. absurd (let some : None ≡ Some a = sym own ∙ own' in cc))
     go again (Some a) None own rest is =
-        first_is a own (same_Some is) (λ head other c from. absurd (let some : None ≡ Some other =
+        first_is a own (same_Some _ _ is) (λ head other c from. absurd (let some : None ≡ Some other =
         sym (least-none heads rest head c) ∙ from in cc))
     go again (Some a) (Some b) own rest is = elim (cases_Bool (bytes_less (quote b) (quote a))) [
       | inl t ↦
-          let same : b ≡ source = same_Some (sym (cond-true _ (Some b) (Some a) t) ∙ is) in
+          let same : b ≡ source = same_Some _ _ (sym (cond-true _ (Some b) (Some a) t) ∙ is) in
           later_is (again source (rest ∙ ap Some same))
           (λ x own'.
-          let one : x ≡ a = same_Some (sym own' ∙ own) in
+          let one : x ≡ a = same_Some _ _ (sym own' ∙ own) in
           subst (λ z. bytes_less (quote z) (quote source) ≡ false) (sym one)
           (subst (λ z. bytes_less (quote a) (quote z) ≡ false) same (bytes_less-asym (quote b) (quote a) t)))
       | inr f ↦
-          let same : a ≡ source = same_Some (sym (cond-false _ (Some b) (Some a) f) ∙ is) in
+          let same : a ≡ source = same_Some _ _ (sym (cond-false _ (Some b) (Some a) f) ∙ is) in
           let later = again b rest in
           first_is a own same (λ head other c from. bytes-below (quote a) (quote b) (quote other) f
           (later.least head other c from))

@@ -1,12 +1,8 @@
 -- The text of a scene by its parts, that it is compact, and that it is written in one way.
-use Rattle.std.proofs.Common.{◌≡◌, ◌<◌, ◌≤◌, ℕ, zero, suc, true, nat_lt, IsUtf8, List, [], ◌∷◌, ◌++◌, codes, length, take, map, All, bytes_eq, refl, sym, ap, ◌∙◌, append_assoc, append-nil, take_all, arith}
+use Rattle.std.proofs.Common.{◌≡◌, ◌≤◌, ℕ, IsUtf8, List, [], ◌∷◌, ◌++◌, codes, length, take, map, All, bytes_eq, refl, sym, ap, ◌∙◌, append_assoc, append-nil, take_all, arith}
 use Rattle.std.specs.Cmp.Lexicographic.{nat_list_eq_equiv}
 use Rattle.std.specs.Fmt.{digits}
-use Rattle.std.specs.List.{join_with_byte, list_all, IsDistinct}
-use Rattle.std.specs.Str.{IsAscii}
-use Rattle.std.proofs.lemmas.Bool.{and_parts}
-use Rattle.std.proofs.lemmas.Bool.Decides.{nat_tests}
-use Rattle.std.proofs.lemmas.Str.{IsUtf8-from_ascii}
+use Rattle.std.specs.List.{join_with_byte, IsDistinct}
 use Rattle.std.proofs.lemmas.List.Elements.{All-map, All-same, recursion_from_All}
 use Rattle.std.proofs.lemmas.Map.Made.{IsDistinct-from_count}
 use Rattle.json_text.specs.Characters.{quote}
@@ -17,7 +13,7 @@ use Rattle.json_text.specs.Tree.{Tree, IsGood, spelling}
 use Rattle.json_text.specs.Value.{IsCompact}
 use Rattle.json_text.specs.declared.text.Member.{Member}
 use Rattle.scene_json.specs.Layout.{laid_out}
-use Rattle.json_text.proofs.CallerLemmas.{quote-compact, decimal_nests, array-compact, object-compact, Value-deeper, tree-once}
+use Rattle.json_text.proofs.CallerLemmas.{quote-compact, decimal_nests, array-compact, object-compact, Value-deeper, tree-once, ascii-utf8}
 use Rattle.elem.specs.ElementValue.{ElementValue}
 use Rattle.elem.specs.Texts.{element_text, text_or_null}
 use Rattle.file_table.specs.References.{referred_files}
@@ -138,16 +134,6 @@ members-compact ms i all named nest distinct =
     })
 
 -- ---- the text is compact
-small : (b : ℕ) → nat_lt b 128 ≡ true → b < 128
-small b h = grind (arith, nat_tests)
-
-ascii : (s : List ℕ) → list_all (λ b. nat_lt b 128) s ≡ true → IsAscii s
-ascii [] h i = omega arith
-ascii (b ∷ bs) h zero = small b (and_parts _ _ h).0
-ascii (b ∷ bs) h (suc i) = ascii bs (and_parts _ _ h).1 i
-
-utf8 : (s : List ℕ) → list_all (λ b. nat_lt b 128) s ≡ true → IsUtf8 s
-utf8 s h = IsUtf8-from_ascii s (ascii s h)
 
 elements-compact : (elements : List ElementValue) → All (λ e. IsCompact 120 (element_text e)) elements
     → IsCompact 121 (array_text (map element_text elements))
@@ -160,20 +146,20 @@ pub scene-are : (head : Heading) (elements : List ElementValue) (files : List Pa
     → AreMembers 127 (scene_members head elements files)
 scene-are head elements files source each settings table = record {
   named = (
-    utf8 (codes "type") refl,
+    ascii-utf8 (codes "type") refl,
     (
-      utf8 (codes "version") refl,
+      ascii-utf8 (codes "version") refl,
       (
-        utf8 (codes "source") refl,
+        ascii-utf8 (codes "source") refl,
         (
-          utf8 (codes "elements") refl,
-          (utf8 (codes "appState") refl, (utf8 (codes "files") refl, tt)),
+          ascii-utf8 (codes "elements") refl,
+          (ascii-utf8 (codes "appState") refl, (ascii-utf8 (codes "files") refl, tt)),
         ),
       ),
     ),
   );
   valued = (
-    quote-compact 127 (codes "excalidraw") (utf8 (codes "excalidraw") refl),
+    quote-compact 127 (codes "excalidraw") (ascii-utf8 (codes "excalidraw") refl),
     (
       decimal_nests 127 2 (omega arith),
       (

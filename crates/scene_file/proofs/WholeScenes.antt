@@ -1,15 +1,13 @@
 -- Scenes that are read are whole, and so are the heads that theirs are joined to.
-use Rattle.std.proofs.Common.{◌≡◌, ℕ, List, [], ◌∷◌, true, false, cond, Option, Some, None, IfSome, All, codes, sym, ◌∙◌, subst, inl, inr, IsUtf8}
+use Rattle.std.proofs.Common.{◌≡◌, ℕ, List, [], ◌∷◌, Some, IfSome, All, codes, sym, ◌∙◌, subst, inl, inr, IsUtf8}
 use Rattle.std.specs.List.{AllByRecursion, flat_map}
 use Rattle.std.proofs.lemmas.List.Elements.{All-nil, All-cons, All-head, All-tail, All-append, All-weaker, All-contains, All-from_recursion}
-use Rattle.json_text.specs.Characters.{quote}
 use Rattle.json_text.specs.Compact.{Member as Pair}
 use Rattle.json_text.specs.Members.{pairs}
 use Rattle.json_text.specs.Parts.{AreMembers}
 use Rattle.json_text.specs.Value.{IsCompact}
 use Rattle.scene_json.specs.Named.{value_at, AreSameMembers, HaveRisingNames}
 use Rattle.scene_json.proofs.CallerLemmas.{rising_distinct}
-use Rattle.frac_keys.specs.Keys.{bytes_less}
 use Rattle.elem.specs.ElementValue.{ElementValue}
 use Rattle.elem.specs.Forms.{find_in}
 use Rattle.elem.proofs.CallerLemmas.{AllByRecursion-weaker}
@@ -19,12 +17,13 @@ use Rattle.elem_read.proofs.CallerLemmas.{AllFound, found-has, found-self, IsSou
 use Rattle.elem_store.specs.Updates.{AreStored}
 use Rattle.file_table.specs.Table.{IsLeast, AreLeastEntries}
 use Rattle.file_table.proofs.CallerLemmas.{least-is}
-use Rattle.scene_file.specs.Heads.{Heading, lesser_source, least_source, settings_of, files_of, IsJoinedHead}
-use Rattle.scene_file.specs.Reading.{loaded, IsSource, IsHeadOf, IsSceneAt}
+use Rattle.scene_file.specs.Heads.{Heading, least_source, settings_of, files_of, IsJoinedHead}
+use Rattle.scene_file.specs.Reading.{loaded, IsHeadOf, IsSceneAt}
 use Rattle.scene_file.specs.Whole.{IsWholeHead, HaveKeys, IsWholeScene}
 use Rattle.scene_file.specs.declared.scene.Scene.{Scene}
 use Rattle.scene_file.proofs.Nesting.{nests-value_unless_null}
 use Rattle.scene_file.proofs.Sound.{AreSound, loaded-sound, loaded-keys, stored-all}
+use Rattle.scene_file.proofs.Fitting.{lesser-fits, source-fits}
 
 abbrev IsNamed : List ℕ → List ℕ → Type 0
 IsNamed name value = IsUtf8 name
@@ -53,13 +52,10 @@ members-same ms ns rise same are =
     (λ name value e. found-has Nests ns are.valued name value (sym (same name) ∙ e))
 
 -- ---- heads that are read
-source-whole : (found source : Option (List ℕ)) → IsSource found source → IfSome source IsUtf8
-source-whole found None is = tt
-source-whole found (Some text) is = is.0
 
 head-whole : (members : List Pair) (head : Heading) → AreMembers 127 members → IsHeadOf members head → IsWholeHead head
 head-whole members head are is = record {
-  source = source-whole (value_at (codes "source") members) head.source is.source;
+  source = source-fits (value_at (codes "source") members) head.source is.source;
   settings = members-same (pairs head.app_state) is.settings is.state_ordered is.app_state
       (nests-value_unless_null (codes "appState") members is.settings are is.state);
   settings_ordered = is.state_ordered;
@@ -89,18 +85,10 @@ part-all part P (head ∷ heads) each whole =
     (All-from_recursion P (part head) (each head (All-head IsWholeHead head heads whole)))
     (part-all part P heads each (All-tail IsWholeHead head heads whole))
 
-lesser-whole : (source other : Option (List ℕ)) → IfSome source IsUtf8 → IfSome other IsUtf8
-    → IfSome (lesser_source source other) IsUtf8
-lesser-whole None other first second = second
-lesser-whole (Some text) None first second = first
-lesser-whole (Some text) (Some other) first second =
-    elim (bytes_less (quote other) (quote text)) as (λ b. IfSome (cond b (Some other) (Some text)) IsUtf8)
-    [ true ↦ second | false ↦ first ]
-
 pub least-whole : (heads : List Heading) → All IsWholeHead heads → IfSome (least_source heads) IsUtf8
 least-whole [] whole = tt
 least-whole (head ∷ heads) whole =
-    lesser-whole head.source (least_source heads) (All-head IsWholeHead head heads whole).source
+    lesser-fits head.source (least_source heads) (All-head IsWholeHead head heads whole).source
     (least-whole heads (All-tail IsWholeHead head heads whole))
 
 pub joined-whole : (heads : List Heading) (head : Heading) → All IsWholeHead heads → IsJoinedHead heads head

@@ -12,6 +12,11 @@ pub names-pairs : (ms : List Member) → names_of (pairs ms) ≡ map (λ m. m.na
 names-pairs [] = refl
 names-pairs (m ∷ ms) = ap (λ rest. m.name ∷ rest) (names-pairs ms)
 
+pub pairs-each : (P : Pair → Type 0) (ms : List Member) → AllByRecursion (λ (m : Member). P (m.name, m.value)) ms
+    → AllByRecursion P (pairs ms)
+pairs-each P [] h = tt
+pairs-each P (m ∷ ms) h = (h.0, pairs-each P ms h.1)
+
 pub pairs-AreMembers : (limit i : ℕ) (ms : List Member) → length (pairs ms) ≤ i
     → All (λ (m : Pair). IsUtf8 m.0) (take i (pairs ms)) →
     IsDistinct bytes_eq (map (λ m. m.name) ms) → All (λ m. IsCompact limit m.value) ms → AreMembers limit (pairs ms)

@@ -7,7 +7,7 @@ use Rattle.json_text.specs.Value.{IsCompact}
 use Rattle.json_text.proofs.CallerLemmas.{quote-compact, tail-same, utf8-Quotes, pieces-once}
 
 -- a quote is of one text alone
-quote-once : (text other : List ℕ) → IsUtf8 text → IsUtf8 other → quote text ≡ quote other → text ≡ other
+pub quote-once : (text other : List ℕ) → IsUtf8 text → IsUtf8 other → quote text ≡ quote other → text ≡ other
 quote-once text other utf8 is e =
     let q = utf8-Quotes text utf8 in
     let p = utf8-Quotes other is in
@@ -21,7 +21,7 @@ quotes-once [] [] each all e = refl
 quotes-once (t ∷ ts) (o ∷ os) each all e = grind (arith, quote-once t o, quotes-once ts os)
 quotes-once ts os each all e = cc
 
-pub quotes-compact : (texts : List (List ℕ)) → AllByRecursion IsUtf8 texts
-    → AllByRecursion (IsCompact 127) (map quote texts)
-quotes-compact [] each = tt
-quotes-compact (t ∷ ts) each = (quote-compact 127 t each.0, quotes-compact ts each.1)
+pub quotes-compact : (limit : ℕ) (texts : List (List ℕ)) → AllByRecursion IsUtf8 texts
+    → AllByRecursion (IsCompact limit) (map quote texts)
+quotes-compact limit [] each = tt
+quotes-compact limit (t ∷ ts) each = (quote-compact limit t each.0, quotes-compact limit ts each.1)

@@ -98,6 +98,12 @@ module _ (before elements : List ElementValue) (i : ℕ) (e : ElementValue) (wit
 abbrev pub flat : List (List ElementValue) → List ElementValue
 flat messages = flat_map (λ (message : List ElementValue). message) messages
 
+pub flat-more : (messages : List (List ElementValue)) (message : List ElementValue)
+    → flat (messages ++ message ∷ []) ≡ flat messages ++ message
+flat-more messages message =
+    flat_map-append (λ (m : List ElementValue). m) messages (message ∷ [])
+    ∙ ap (λ es. flat messages ++ es) (append-nil message)
+
 -- one message more
 module _ (opening : List ElementValue) (messages : List (List ElementValue)) (i : ℕ) (message : List ElementValue)
     (within : i < length messages) (here : message ≡ get_or messages i message) where
@@ -105,8 +111,7 @@ module _ (opening : List ElementValue) (messages : List (List ElementValue)) (i 
   message-more =
       ap (λ ms. opening ++ flat ms) (take_more messages i message within
       ∙ ap (λ (m : List ElementValue). take i messages ++ m ∷ []) (sym here))
-      ∙ ap (λ es. opening ++ es) (flat_map-append (λ (m : List ElementValue). m) (take i messages) (message ∷ [])
-      ∙ ap (λ es. flat (take i messages) ++ es) (append-nil message))
+      ∙ ap (λ es. opening ++ es) (flat-more (take i messages) message)
       ∙ sym (append_assoc opening (flat (take i messages)) message)
 
   pub message-counted : (count more new : ℕ) → HaveClashes [] (opening ++ flat (take i messages)) count

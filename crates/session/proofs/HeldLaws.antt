@@ -1,6 +1,6 @@
 -- Held ids with one more, and without one: they rise, and hold what they should, so they are those that a replica
 -- holds.
-use Rattle.std.proofs.Common.{◌≡◌, ℕ, Bool, true, false, not, ◌&&◌, ◌||◌, List, [], ◌∷◌, if◌then◌else◌, bytes_eq, Ordering, Less, is_lt, nat_cmp, refl, sym, ap, ◌∙◌, subst, arith}
+use Rattle.std.proofs.Common.{◌≡◌, ℕ, Bool, true, false, not, ◌&&◌, ◌||◌, List, [], ◌∷◌, if◌then◌else◌, bytes_eq, Less, is_lt, nat_cmp, refl, sym, ap, ◌∙◌, subst, arith}
 use Rattle.std.specs.Cmp.Lexicographic.{slice_cmp}
 use Rattle.std.specs.List.{AllByRecursion}
 use Rattle.std.specs.List.Sorted.{IsStrictlySortedBy}
@@ -8,7 +8,8 @@ use Rattle.std.proofs.lemmas.List.Kept.{IsStrictlySortedBy-filter}
 use Rattle.std.proofs.lemmas.Map.Views.{any-filter_same}
 use Rattle.json_text.proofs.CallerLemmas.{bytes_eq-true}
 use Rattle.frac_keys.specs.Keys.{bytes_less}
-use Rattle.elem.proofs.CallerLemmas.{AllByRecursion-weaker, bytes_less-trans, bytes_less-turned}
+use Rattle.frac_keys.proofs.CallerLemmas.{bytes_less-trans, bytes_less-turned}
+use Rattle.elem.proofs.CallerLemmas.{AllByRecursion-weaker}
 use Rattle.delta.proofs.CallerLemmas.{each-put}
 use Rattle.reconcile.specs.Ids.{is_held, AreStrictlySorted, HasAdded, HasDropped}
 use Rattle.reconcile.proofs.CallerLemmas.{held-unique}
@@ -20,11 +21,8 @@ itself id = id
 abbrev IsAbove : List ℕ → List ℕ → Type 0
 IsAbove id other = slice_cmp nat_cmp id other ≡ Less
 
-less-is : (o : Ordering) → is_lt o ≡ true → o ≡ Less
-less-is o h = grind arith
-
 above : (id other : List ℕ) → bytes_less id other ≡ true → IsAbove id other
-above id other h = less-is (slice_cmp nat_cmp id other) h
+above id other h = grind arith
 
 above-trans : (id other last : List ℕ) → IsAbove id other → IsAbove other last → IsAbove id last
 above-trans id other last h k = above id last (bytes_less-trans id other last (ap is_lt h) (ap is_lt k))

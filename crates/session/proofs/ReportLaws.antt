@@ -1,5 +1,5 @@
 -- What is reported of a replica.
-use Rattle.std.proofs.Common.{◌≡◌, suc, List, [], ◌∷◌, length, reverse, Result, Ok, Err, IfOk, IsPermutation, refl, sym, ap, ◌∙◌}
+use Rattle.std.proofs.Common.{◌≡◌, suc, List, [], ◌∷◌, length, reverse, IsPermutation, refl, sym, ap, ◌∙◌}
 use Rattle.std.proofs.lemmas.List.{length-map, length-reverse}
 use Rattle.std.proofs.lemmas.List.Sorted.{length_permutation}
 use Rattle.delta.specs.Delta.{Delta}
@@ -26,8 +26,3 @@ pub live-long : (live shown : List ElementValue) → IsPermutation (ids_of live)
 live-long live shown moved =
     sym (length-map shown (λ (e : ElementValue). e.id)) ∙ length_permutation (ids_of live) (ids_of shown) moved
     ∙ length-map live (λ (e : ElementValue). e.id)
-
--- what holds of a result that is there
-pub ok-more : {A E : Type 0} (r : Result A E) (P Q : A → Type 0) → ((x : A) → P x → Q x) → IfOk r P → IfOk r Q
-ok-more (Ok x) P Q h p = h x p
-ok-more (Err e) P Q h p = p

@@ -1,7 +1,6 @@
 -- What a replica holds and stores after each call, and what its seat then stands for.
-use Rattle.std.proofs.Common.{◌≡◌, ℕ, ◌+◌, List, [], ◌∷◌, length, Option, Some, None, Result, Ok, Err, refl, sym, ap, ◌∙◌, subst, add-zero, length-append}
+use Rattle.std.proofs.Common.{◌≡◌, ℕ, ◌+◌, List, [], length, Option, Some, None, Result, Ok, Err, refl, sym, ap, ◌∙◌, subst, add-zero, length-append}
 use Rattle.elem.specs.ElementValue.{ElementValue}
-use Rattle.delta.specs.Pairs.{Pair}
 use Rattle.view.specs.Shown.{live_elements, shown}
 use Rattle.effects.specs.Changed.{outcome}
 use Rattle.board_commands.specs.declared.command.Capture.{Capture}
@@ -15,8 +14,8 @@ use Rattle.undoing.specs.Carrying.{taken_all}
 use Rattle.undoing.specs.Differing.{pending}
 use Rattle.undoing.specs.Steps.{Turn}
 use Rattle.replica.specs.Standing.{ReplicaStandsFor, Kept}
-use Rattle.replica.specs.State.{State, noted, captured, stored_with, outcome_on, after_outcome, after_change, after_delivery, turn_on, after_turn, after_turn_of}
-use Rattle.replica.proofs.CallerLemmas.{given-held, turn-held-of}
+use Rattle.replica.specs.State.{State, captured, stored_with, outcome_on, after_outcome, after_change, after_delivery, turn_on, after_turn, after_turn_of}
+use Rattle.replica.proofs.CallerLemmas.{given-held, turn-held-of, noted-stored}
 use Rattle.session.specs.declared.seat.Seat.{Seat as KeptSeat}
 use Rattle.session.specs.declared.outcome.Outcome.{Outcome}
 use Rattle.session.specs.declared.outcome.Outcome.TheVariants.{Given, Refused}
@@ -24,9 +23,6 @@ use Rattle.session.specs.inner.Standing.{SeatStandsFor, IsActed}
 use Rattle.session.specs.Worlds.{Seat, Act, change_on, delivered, given_of, holding, of_command, of_step, turn_by}
 
 -- ---- what stays over a call, and what is stored then
-noted-stored : (pairs : List Pair) (s : State) → (noted pairs s).stored ≡ s.stored
-noted-stored [] s = refl
-noted-stored (pair ∷ pairs) s = refl
 
 pub captured-stored : (s : State) → (captured s).stored ≡ s.stored
 captured-stored s = noted-stored (pending s.snapshot s.stored) s

@@ -1,7 +1,6 @@
 -- Every replica stores what it took, and took nothing but what was made.
-use Rattle.std.proofs.Common.{◌≡◌, ℕ, zero, suc, not, List, [], ◌∷◌, ◌++◌, take, get_or, set, replicate, flat_map, option_to_list, slice_get, Contains, refl, sym, ap, ◌∙◌, subst, append_assoc, append-nil, inl, inr, arith}
+use Rattle.std.proofs.Common.{◌≡◌, ℕ, zero, suc, not, List, [], ◌∷◌, ◌++◌, take, get_or, set, replicate, option_to_list, slice_get, Contains, refl, sym, ap, ◌∙◌, subst, append_assoc, inl, inr, arith}
 use Rattle.std.specs.List.{AllByRecursion}
-use Rattle.std.proofs.lemmas.Grind.{flat_map-append}
 use Rattle.std.proofs.lemmas.List.Elements.{All-contains, All-from_recursion, Contains-append_left, Contains-append_right, Contains-append_cases}
 use Rattle.elem.specs.ElementValue.{ElementValue}
 use Rattle.elem.specs.Said.{AreElements}
@@ -22,6 +21,7 @@ use Rattle.session_text.specs.declared.event.Pick.TheVariants.{All, One}
 use Rattle.session_text.specs.declared.session.Session.{Session}
 use Rattle.session.specs.Worlds.{Seat, World, Act, fresh, delivered, holding, with_id, without_id, acted, given_of, change_on, turn_by, seat_at, state_at, nonce_at, after_act, after_turn_at, picked, all_picked, after_event, after_events, opened, opening_elements, world_after, all_elements}
 use Rattle.session.proofs.SeatLaws.{outcome-stored, turn-stored}
+use Rattle.session.proofs.ClashLaws.{flat, flat-more}
 
 -- ---- what holds of each seat
 module _ (P : Seat → Type 0) where
@@ -134,16 +134,6 @@ same-stored session count s other among also are same =
     (taken-stored session count other also)
 
 -- ---- what was made
-abbrev message_of : List ElementValue → List ElementValue
-message_of message = message
-
-abbrev flat : List (List ElementValue) → List ElementValue
-flat messages = flat_map message_of messages
-
-flat-more : (messages : List (List ElementValue)) (message : List ElementValue)
-    → flat (messages ++ message ∷ []) ≡ flat messages ++ message
-flat-more messages message =
-    flat_map-append message_of messages (message ∷ []) ∙ ap (λ es. flat messages ++ es) (append-nil message)
 
 module _ (opening : List ElementValue) where
   -- these are among the opening elements and those of the messages

@@ -1,7 +1,7 @@
 -- What events do to one replica, whose held ids play no part in it.
-use Rattle.std.proofs.Common.{◌≡◌, ◌≢◌, ◌≤◌, ◌<◌, ◌==◌, ℕ, zero, suc, Bool, true, false, not, List, [], ◌∷◌, length, get_or, set, Option, Some, None, Result, Ok, Err, IsSomeAnd, Contains, inl, inr, refl, sym, ap, ◌∙◌, subst, arith}
+use Rattle.std.proofs.Common.{◌≡◌, ◌≢◌, ◌≤◌, ◌<◌, ◌==◌, ℕ, zero, suc, true, List, [], ◌∷◌, length, get_or, set, Option, Some, None, Result, Ok, Err, IsSomeAnd, Contains, inl, inr, refl, sym, ap, ◌∙◌, subst, arith}
 use Rattle.std.specs.List.{AllByRecursion}
-use Rattle.std.proofs.lemmas.Bool.{cases_Bool, eqb-true, eqb-false}
+use Rattle.std.proofs.lemmas.Bool.{cases_Bool, eqb-true, eqb-false, not-true}
 use Rattle.std.proofs.lemmas.List.{get_or-set_same, get_or-set_other}
 use Rattle.elem.specs.ElementValue.{ElementValue}
 use Rattle.elem.specs.Facts.{greatest_whole}
@@ -64,9 +64,6 @@ unheld-turned direction time nonce s turn found =
     ∙ sym (ap (λ o. after_turn_of direction o (unheld s)) (unheld-turn_on direction time nonce s ∙ found))
 
 -- ---- what a command gives is a change of what is stored
-not-deleted : (b : Bool) → not b ≡ true → b ≡ false
-not-deleted true h = absurd (cc)
-not-deleted false h = refl
 
 module _ (s : State) (kept : IsKept s) (command : Command) (time nonce : ℕ)
     (limits : IsWithinLimits command) (written : IsWrittenCommand command) (early : time ≤ greatest_whole)
@@ -78,13 +75,13 @@ module _ (s : State) (kept : IsKept s) (command : Command) (time nonce : ℕ)
     seen-alters : (e : ElementValue) (o : Option ElementValue) → Contains given e → element_of s.stored e.id ≡ o
         → IsSomeAnd o (λ (old : ElementValue). (is_live old ≡ true) × (unstamped old ≢ unstamped e)) → Alters o e
     seen-alters e None c found seen = absurd seen
-    seen-alters e (Some old) c found seen = (not-deleted old.deleted seen.0, are-given.kinds e old c found, seen.1)
+    seen-alters e (Some old) c found seen = (not-true old.deleted seen.0, are-given.kinds e old c found, seen.1)
 
     given-alters : (e : ElementValue) → Contains given e → Alters (element_of s.stored e.id) e
     given-alters e c =
         elim (given-seen s.stored (shown (live_elements s.stored)) command time nonce given told kept.stored_rise e c) [
           | inl change ↦ seen-alters e (element_of s.stored e.id) c refl change
-          | inr new ↦ subst (λ o. Alters o e) (sym new.unknown) (not-deleted e.deleted new.live)
+          | inr new ↦ subst (λ o. Alters o e) (sym new.unknown) (not-true e.deleted new.live)
         ]
 
     pub given-changes : given ≢ [] → IsStoredChange s.stored given

@@ -1,21 +1,21 @@
 -- Entries of pairs of one id each, in the order of their ids: what is pending is one, and a step over such entries
 -- leaves such.
-use Rattle.std.proofs.Common.{◌≡◌, ℕ, ◌+◌, true, ◌&&◌, List, [], ◌∷◌, map, Option, Some, None, Ok, Contains, inl, inr, refl, sym, ap, ap₂, ◌∙◌, subst, arith}
+use Rattle.std.proofs.Common.{◌≡◌, ℕ, ◌+◌, true, ◌&&◌, List, [], ◌∷◌, map, Option, Some, None, Ok, Contains, inl, inr, refl, sym, ap, ◌∙◌, subst, arith}
 use Rattle.std.specs.List.{cons_option, AllByRecursion}
 use Rattle.std.proofs.lemmas.Bool.{cases_Bool, and_parts, and_from, cond-true, cond-false}
 use Rattle.std.proofs.lemmas.Option.{none-some, same_Some}
 use Rattle.frac_keys.specs.Rising.{ends_rise, rise_between, are_rising}
+use Rattle.json_text.proofs.CallerLemmas.{Contains-map}
 use Rattle.elem.specs.ElementValue.{ElementValue}
 use Rattle.elem.specs.Order.{has_id}
 use Rattle.elem_store.specs.Updates.{element_of, ids_of}
-use Rattle.elem_store.proofs.CallerLemmas.{same_id, Contains-head, Contains-cons, Contains-cases, find-Some, filter-Contains}
+use Rattle.elem_store.proofs.CallerLemmas.{same_id, Contains-head, Contains-cases, find-Some, filter-Contains}
 use Rattle.delta.specs.Pairs.{Pair, pair_with, pairs_from, exchanged}
 use Rattle.delta.specs.Parts.{counted}
-use Rattle.delta.proofs.CallerLemmas.{Contains-map}
 use Rattle.undoing.specs.Differing.{is_changed, pending}
 use Rattle.undoing.specs.Entries.{pair_ids, IsGiven}
 use Rattle.undoing.specs.Steps.{is_seen, given_of, given, Sought, sought, Turn, step}
-use Rattle.undoing.proofs.CallerLemmas.{rise-lower, ids-from, pending-rise, given-each, step-turn, undone-stamp}
+use Rattle.undoing.proofs.CallerLemmas.{rise-lower, ids-from, pending-rise, given-each, step-turn, undone-stamp, ids-exchanged}
 
 -- the pairs are of one id each, in the order of the ids; so are those of each entry of a stack
 pub record IsOrdered (pairs : List Pair) : Type 0 where
@@ -53,12 +53,6 @@ pending-ordered snapshot stored rise = record {
 }
 
 -- ---- the other way round
-ids-exchanged : (pairs : List Pair) → ((pair : Pair) → Contains pairs pair → pair.before.id ≡ pair.after.id)
-    → pair_ids (map exchanged pairs) ≡ pair_ids pairs
-ids-exchanged [] same = refl
-ids-exchanged (pair ∷ pairs) same =
-    ap₂ (λ (id : List ℕ) (ids : List (List ℕ)). id ∷ ids) (same pair (Contains-head pair pairs))
-    (ids-exchanged pairs (λ p c. same p (Contains-cons pair pairs p c)))
 
 exchanged-ordered : (pairs : List Pair) → IsOrdered pairs → IsOrdered (map exchanged pairs)
 exchanged-ordered pairs ordered = record {

@@ -1,10 +1,9 @@
 -- A change that nobody captures leaves a snapshot that is what is stored but for stamps such a one.
-use Rattle.std.proofs.Common.{◌≡◌, ℕ, Bool, true, false, cond, List, [], ◌∷◌, ◌++◌, filter, map, Option, Some, None, IfSome, bytes_eq, if◌then◌else◌, inl, inr, refl, sym, ap, ◌∙◌, subst}
+use Rattle.std.proofs.Common.{◌≡◌, ℕ, Bool, true, false, cond, List, [], ◌∷◌, map, Option, Some, None, IfSome, inl, inr, refl, sym, ap, ◌∙◌, subst}
 use Rattle.std.specs.Option.{option_map}
-use Rattle.std.proofs.lemmas.Bool.{cases_Bool, false≢true, cond_both, cond-true, cond-false}
+use Rattle.std.proofs.lemmas.Bool.{cases_Bool, cond_both, cond-true, cond-false}
 use Rattle.std.proofs.lemmas.Option.{none-some, same_Some}
 use Rattle.std.proofs.lemmas.List.Elements.{All-head, All-tail}
-use Rattle.json_text.proofs.CallerLemmas.{bytes_eq-true, bytes_eq-same}
 use Rattle.frac_keys.specs.Rising.{are_rising}
 use Rattle.elem.specs.ElementValue.{ElementValue}
 use Rattle.elem.specs.Facts.{IsElement}
@@ -12,82 +11,20 @@ use Rattle.elem.specs.Order.{unstamped, has_id}
 use Rattle.elem.specs.Said.{HasValidTexts, AreElements}
 use Rattle.elem_store.specs.Updates.{Taking, element_of, ids_of, is_taken, takings}
 use Rattle.elem_store.proofs.CallerLemmas.{same_elements}
-use Rattle.delta.specs.Headers.{scalar_of}
-use Rattle.json_text.specs.FirstOccurrences.{first_occurrences}
-use Rattle.delta.specs.Joined.{are_same, joined, stays, is_gained}
 use Rattle.delta.specs.Pairs.{Pair}
-use Rattle.delta.specs.Parts.{scalars_same}
-use Rattle.delta.specs.Undone.{undone_scalar, undone_list}
-use Rattle.delta.proofs.CallerLemmas.{are_same-exact, are_same-same, same-unstamped}
-use Rattle.elem.specs.Listings.{same_listing_entry-exact, same_listing_entry-same, same_listing_entry}
 use Rattle.undoing.specs.Carrying.{with_put, taken, taken_all, followed, carried_over, carried, carried_all}
 use Rattle.undoing.specs.Differing.{same_kind}
-use Rattle.undoing.specs.Entries.{IsOfElements}
-use Rattle.undoing.specs.Undoing.{undone_in, undone}
-use Rattle.undoing.proofs.CallerLemmas.{same_kind-true, found-is, put-each, put-elements, taken_all-rising, carried_all-rising, carried-elements, carried-rising, undone-undoes, undone-element}
+use Rattle.undoing.specs.Undoing.{undone}
+use Rattle.undoing.proofs.CallerLemmas.{same_kind-true, found-is, put-each, put-elements, taken_all-rising, carried_all-rising, carried-elements, carried-rising, undone-back}
 use Rattle.snapshot.proofs.CallerLemmas.{takings-more}
 use Rattle.replica.specs.Back.{IsCaptured}
 use Rattle.replica.specs.State.{State, carried_with}
-use Rattle.replica.proofs.CallerLemmas.{same-bare, SameAs, bare_of}
+use Rattle.replica.proofs.CallerLemmas.{same-bare, SameAs, bare_of, find-unstamped, ids-unstamped}
 use Rattle.session_laws.proofs.SoundStates.{IsKept}
 
 -- an element as its type keeps it
 abbrev Is : ElementValue → Type 0
 Is e = IsElement e × HasValidTexts e
-
--- ---- undoing from what is after a change makes what is before it
-scalars-exact : (a b : Option (List ℕ)) → scalars_same a b ≡ true → a ≡ b
-scalars-exact None None h = refl
-scalars-exact None (Some b) h = absurd (false≢true h)
-scalars-exact (Some a) None h = absurd (false≢true h)
-scalars-exact (Some a) (Some b) h = ap Some (bytes_eq-true a b h)
-
-scalar-back : (b a : Option (List ℕ)) → undone_scalar b a a ≡ b
-scalar-back b a = elim (cases_Bool (scalars_same b a)) [
-  | inl t ↦ ap (λ same. if same then a else b) t ∙ sym (scalars-exact b a t)
-  | inr f ↦ ap (λ same. if same then a else b) f
-]
-
-module _ {T : Type 0} (same : T → T → Bool) (exact : (a b : T) → same a b ≡ true → a ≡ b) (itself : (a : T)
-    → same a a ≡ true) where
-  joined-all : (b a : List T) → joined same b a b ≡ a
-  joined-all b a = ap (λ t. if t then a else filter (stays same b a) b
-      ++ first_occurrences same (filter (is_gained same b b) a)) (are_same-same same itself b)
-
-  list-back : (b a : List T) → undone_list same b a a ≡ b
-  list-back b a = elim (cases_Bool (are_same same b a)) [
-    | inl t ↦ ap (λ s. if s then a else joined same a b a) t ∙ sym (are_same-exact same exact b a t)
-    | inr f ↦ ap (λ s. if s then a else joined same a b a) f ∙ joined-all a b
-  ]
-
-undone-unstamped : (pair : Pair) (now : ElementValue) → unstamped (undone pair now)
-    ≡ unstamped (undone pair (unstamped now))
-unfolding undone
-undone-unstamped pair now =
-    elim (same_kind pair.after.kind now.kind) as (λ b. unstamped (cond b (undone_in pair now) now)
-    ≡ unstamped (cond b (undone_in pair (unstamped now)) (unstamped now))) [
-      | true ↦ refl
-      | false ↦ refl
-    ]
-
-module _ (pair : Pair) (of : IsOfElements pair) (id : pair.before.id ≡ pair.after.id) (kind : pair.before.kind
-    ≡ pair.after.kind) where
-  after-back : unstamped (undone pair pair.after) ≡ unstamped pair.before
-  after-back =
-      let undoes = (undone-undoes pair pair.after of kind of.1.0 of.1.1).undone refl in
-      let made = undone-element pair pair.after of kind of.1.0 of.1.1 in
-      same-unstamped (undone pair pair.after) pair.before made.0 of.0.0 (undoes.stamp.kind ∙ sym kind)
-      (λ n. undoes.scalars n ∙ scalar-back (scalar_of pair.before n) (scalar_of pair.after n))
-      (undoes.stamp.id ∙ sym id)
-      (undoes.groups ∙ list-back bytes_eq bytes_eq-true bytes_eq-same pair.before.groups pair.after.groups)
-      (undoes.bound ∙ list-back same_listing_entry same_listing_entry-exact same_listing_entry-same pair.before.bound
-      pair.after.bound)
-
-  now-back : (now : ElementValue) → unstamped now ≡ unstamped pair.after
-      → unstamped (undone pair now) ≡ unstamped pair.before
-  now-back now same =
-      undone-unstamped pair now ∙ ap (λ e. unstamped (undone pair e)) same ∙ sym (undone-unstamped pair pair.after)
-      ∙ after-back
 
 -- ---- an element that is put into lists that are the same but for stamps
 put-bare : (e : ElementValue) (elements : List ElementValue) (id : List ℕ) → are_rising (ids_of elements) ≡ true
@@ -124,7 +61,7 @@ module _ (snapshot stored : List ElementValue) (e : ElementValue) (rise : are_ri
       ∙ ap (option_map unstamped) was) in
       let pair : Pair = record { before = e; after = old } in
       put-same e (undone pair held) snapshot stored rise rise'
-      (now-back pair (is, own.0) (sym own.1) (sym kind) held alike) same
+      (undone-back pair (is, own.0) (sym own.1) (sym kind) held alike) same
 
   carried-same : (o : Option ElementValue) → element_of stored e.id ≡ o
       → SameAs (carried_over o e snapshot) (with_put e stored)
@@ -174,18 +111,6 @@ all-same (e ∷ more) snapshot stored rise rise' are are' all same =
     ])
 
 -- ---- lists whose ids rise
-find-unstamped : (id : List ℕ) (es : List ElementValue) → bare_of es id ≡ element_of (map unstamped es) id
-find-unstamped id [] = refl
-find-unstamped id (e ∷ es) =
-    elim (has_id id e) as (λ b. option_map unstamped (cond b (Some e) (element_of es id))
-    ≡ cond b (Some (unstamped e)) (element_of (map unstamped es) id)) [
-      | true ↦ refl
-      | false ↦ find-unstamped id es
-    ]
-
-ids-unstamped : (es : List ElementValue) → ids_of (map unstamped es) ≡ ids_of es
-ids-unstamped [] = refl
-ids-unstamped (e ∷ es) = ap (λ ids. e.id ∷ ids) (ids-unstamped es)
 
 bare-same : (a b : List ElementValue) → are_rising (ids_of a) ≡ true → are_rising (ids_of b) ≡ true → SameAs a b
     → map unstamped a ≡ map unstamped b

@@ -17,7 +17,8 @@ use Rattle.undoing.specs.Carrying.{taken_all}
 use Rattle.undoing.specs.Differing.{differ}
 use Rattle.undoing.specs.Entries.{IsEntry, AreEntries, IsGiven}
 use Rattle.undoing.specs.Leaving.{Leaves, LeavesOthers, StepLeavesOthers}
-use Rattle.undoing.specs.Steps.{Turn, stamped, given, step}
+use Rattle.elem.specs.Stamp.{stamped}
+use Rattle.undoing.specs.Steps.{Turn, given, step}
 use Rattle.undoing.specs.Undoing.{undone}
 use Rattle.undoing.proofs.CallerLemmas.{differ-false, found-is, undone-leaves, given-each, given-all, given-rise, given-taken, step-turn, sought-entries, undone-stamp, undone-element, restamped}
 use Rattle.replica.specs.State.{State, captured, entries, turn_on, after_turn_of, after_turn}

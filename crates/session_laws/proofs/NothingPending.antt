@@ -7,7 +7,6 @@ use Rattle.elem.specs.ElementValue.{ElementValue}
 use Rattle.elem.specs.Facts.{IsElement, greatest_whole}
 use Rattle.elem.specs.Order.{unstamped}
 use Rattle.elem.specs.Said.{HasValidTexts, AreElements}
-use Rattle.delta.specs.Pairs.{Pair}
 use Rattle.reconcile.specs.Ids.{is_held, free_elements}
 use Rattle.board_commands.specs.declared.command.Capture.{Capture}
 use Rattle.board_commands.specs.declared.command.Capture.TheVariants.{Now, Later, Never}
@@ -18,7 +17,7 @@ use Rattle.undoing.specs.Steps.{Turn}
 use Rattle.history.specs.declared.planned.Direction.{Direction}
 use Rattle.history.specs.declared.planned.Direction.TheVariants as directions
 use Rattle.replica.specs.Back.{HasNothingPending, IsCaptured}
-use Rattle.replica.specs.State.{State, noted, captured, stored_with, outcome_on, after_outcome, after_delivery, turn_on, after_turn_of}
+use Rattle.replica.specs.State.{State, captured, stored_with, outcome_on, after_outcome, after_delivery, turn_on, after_turn_of}
 use Rattle.session_text.specs.Facts.{IsSession}
 use Rattle.session_text.specs.declared.event.Event.{Event}
 use Rattle.session_text.specs.declared.event.Event.TheVariants.{Change, Update, Deliver, Hold, Release, Undo, Redo}
@@ -28,13 +27,10 @@ use Rattle.session_laws.specs.Turning.{IsLaterAt}
 use Rattle.session_laws.proofs.SoundStates.{IsKept, kept-nothing, command-given}
 use Rattle.session_laws.proofs.SoundWorlds.{IsKeptWorld, IsKeptEvent, seat-kept, nonce-small, picked-elements, event-kept, opening-are, opened-kept, world-kept, cut}
 use Rattle.session_laws.proofs.AtReplica.{own-put, other-put}
-use Rattle.replica.proofs.CallerLemmas.{captured-none}
+use Rattle.replica.proofs.CallerLemmas.{captured-none, noted-stored}
 use Rattle.session_laws.proofs.Follows.{carried-captured}
 
 -- ---- a state
-noted-stored : (entry : List Pair) (s : State) → (noted entry s).stored ≡ s.stored
-noted-stored [] s = refl
-noted-stored (pair ∷ entry) s = refl
 
 captured-still : (s : State) → IsCaptured (captured s)
 captured-still s = ap (map unstamped) (sym (noted-stored (pending s.snapshot s.stored) s))

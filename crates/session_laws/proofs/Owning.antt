@@ -16,12 +16,13 @@ use Rattle.session.specs.declared.report.Report.{Report}
 use Rattle.session.specs.Clashes.{HaveClashes}
 use Rattle.session.specs.Reports.{IsReportOf}
 use Rattle.drawn_words.specs.Words.{next_word}
+use Rattle.clash.proofs.CallerLemmas.{AreAlike}
 use Rattle.session.specs.Worlds.{Seat, World, Act, fresh, delivered, holding, with_id, without_id, acted, given_of, change_on, turn_by, seat_at, state_at, nonce_at, all_picked, after_act, after_seat, after_event, after_events, opened, opening_elements, all_elements, world_after, last_world}
-use Rattle.session.proofs.CallerLemmas.{flat, clashes-same}
+use Rattle.session.proofs.CallerLemmas.{flat, clashes-same, flat-more}
 use Rattle.session_laws.specs.Own.{IsOwnEvent, HasOwnUpdates}
-use Rattle.session_laws.proofs.Seats.{at-set, at-replicated, Keeps, seat-keeps, act-keeps, delivered-keeps, opened-seats, opened-takes, put-there, flat-more}
+use Rattle.session_laws.proofs.Seats.{at-set, at-replicated, Keeps, seat-keeps, act-keeps, delivered-keeps, opened-seats, opened-takes, put-there}
 use Rattle.session_laws.proofs.Giving.{IsReady, fresh-ready, delivered-ready, IsOwnAct, acted-ready, change-own, turn-own}
-use Rattle.session_laws.proofs.Ties.{AreAlike, free-more, none-free, free-of-clashes, covered}
+use Rattle.session_laws.proofs.Ties.{free-more, none-free, free-of-clashes, covered}
 
 -- ---- an element that a replica made
 pub record IsMade (replicas : ℕ) (w : World) (e : ElementValue) : Type 0 where

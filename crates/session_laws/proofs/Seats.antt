@@ -1,7 +1,6 @@
 -- The replicas of a world by their numbers: what one took stays taken, and what is delivered to one that holds nothing
 -- is taken.
-use Rattle.std.proofs.Common.{◌≡◌, ℕ, zero, suc, ◌<◌, List, [], ◌∷◌, ◌++◌, length, get_or, set, replicate, Contains, refl, sym, ap, ◌∙◌, subst, get_or-set_same, length-set, append-nil, arith}
-use Rattle.std.proofs.lemmas.Grind.{flat_map-append}
+use Rattle.std.proofs.Common.{◌≡◌, ℕ, zero, suc, ◌<◌, List, [], ◌∷◌, length, get_or, set, replicate, Contains, refl, sym, ap, ◌∙◌, subst, get_or-set_same, length-set, arith}
 use Rattle.std.proofs.lemmas.List.{length-replicate}
 use Rattle.std.proofs.lemmas.List.Elements.{Contains-append_left, Contains-append_right}
 use Rattle.elem.specs.ElementValue.{ElementValue}
@@ -11,7 +10,6 @@ use Rattle.session_text.specs.declared.event.Event.{Event}
 use Rattle.session_text.specs.declared.event.Event.TheVariants.{Change, Update, Deliver, Hold, Release, Undo, Redo}
 use Rattle.session_text.specs.declared.session.Session.{Session}
 use Rattle.session.specs.Worlds.{Seat, World, Act, fresh, delivered, holding, with_id, without_id, acted, given_of, change_on, turn_by, seat_at, state_at, nonce_at, all_picked, after_act, after_seat, after_event, after_events, opened, opening_elements}
-use Rattle.session.proofs.CallerLemmas.{flat}
 
 -- ---- replicas by their numbers
 -- what holds of one that is put and of all before holds of all
@@ -121,10 +119,3 @@ opened-takes session at l e c =
 -- the replica with a number once one was put there
 pub put-there : (seats : List Seat) (at : ℕ) (s : Seat) → at < length seats → get_or (set seats at s) at fresh ≡ s
 put-there seats at s l = get_or-set_same seats at s fresh l
-
--- ---- one message more
-pub flat-more : (messages : List (List ElementValue)) (message : List ElementValue)
-    → flat (messages ++ message ∷ []) ≡ flat messages ++ message
-flat-more messages message =
-    flat_map-append (λ (m : List ElementValue). m) messages (message ∷ [])
-    ∙ ap (λ es. flat messages ++ es) (append-nil message)

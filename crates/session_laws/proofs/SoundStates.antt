@@ -4,6 +4,7 @@ use Rattle.std.proofs.lemmas.Bool.{cases_Bool, both_ways, cond-true, cond-false}
 use Rattle.std.proofs.lemmas.Option.{none-some, same_Some}
 use Rattle.std.proofs.lemmas.List.Elements.{All-nil, All-cons, All-head, All-tail, All-filter}
 use Rattle.frac_keys.specs.Rising.{are_rising}
+use Rattle.json_text.proofs.CallerLemmas.{Contains-map}
 use Rattle.elem.specs.ElementValue.{ElementValue}
 use Rattle.elem.specs.Facts.{IsElement, greatest_whole}
 use Rattle.elem.specs.Said.{HasValidTexts, AreElements}
@@ -11,7 +12,6 @@ use Rattle.elem.specs.Order.{has_id}
 use Rattle.elem_store.specs.Updates.{element_of, ids_of, is_taken, takings}
 use Rattle.elem_store.proofs.CallerLemmas.{same_id, of_same, find-Some, filter-Contains, Contains-cases, Contains-head, Contains-cons, member, AreStored-itself, ids-stay}
 use Rattle.delta.specs.Pairs.{Pair, pair_with, pairs_from, exchanged}
-use Rattle.delta.proofs.CallerLemmas.{Contains-map}
 use Rattle.view.specs.Shown.{live_elements, shown}
 use Rattle.reconcile.specs.Ids.{is_held, free_elements}
 use Rattle.board_commands.specs.declared.command.Capture.{Capture}

@@ -1,16 +1,15 @@
 -- No element clashes with an earlier one exactly where no two that are tied differ; and what a store of updates has of
 -- an id is of the highest version.
-use Rattle.std.proofs.Common.{◌≡◌, ◌==◌, ◌≤◌, true, ◌&&◌, ◌||◌, List, [], ◌∷◌, ◌++◌, Option, Some, None, Contains, bytes_eq, inl, inr, refl, sym, ap, ◌∙◌, subst, append_assoc, append-nil, arith}
-use Rattle.std.proofs.lemmas.Bool.{and_parts, or_parts, eqb-true, ltb-false}
+use Rattle.std.proofs.Common.{◌≡◌, ◌==◌, ◌≤◌, ◌&&◌, ◌||◌, List, [], ◌∷◌, ◌++◌, Option, Some, None, Contains, inl, inr, refl, sym, ap, ◌∙◌, subst, append_assoc, append-nil, arith}
+use Rattle.std.proofs.lemmas.Bool.{or_parts, ltb-false}
 use Rattle.std.proofs.lemmas.List.Elements.{Contains-append_left, Contains-append_right, Contains-append_cases}
-use Rattle.std.proofs.lemmas.Slice.Eq.{bytes_eq-Decides}
 use Rattle.std.specs.Prelude.{nat_lt}
 use Rattle.elem.specs.ElementValue.{ElementValue}
 use Rattle.elem.specs.Order.{text_less}
 use Rattle.elem_store.specs.Updates.{element_of, stored_of, are_tied, AreStored, IsFreeOfClashes}
 use Rattle.elem_store.proofs.CallerLemmas.{IsBestOf-stored, stored-None, of_itself, Contains-head, find-Some}
 use Rattle.clash.specs.Firsts.{IsLikeFirst}
-use Rattle.clash.proofs.CallerLemmas.{free-found}
+use Rattle.clash.proofs.CallerLemmas.{free-found, AreAlike, tied-alike}
 use Rattle.session.specs.Clashes.{HaveClashes}
 
 -- ---- no clashes
@@ -56,21 +55,6 @@ pub free-of-clashes : (elements : List ElementValue) → IsFreeOfClashes element
 free-of-clashes elements free = free-none [] elements free
 
 -- ---- elements behind others
-pub record AreAlike (e other : ElementValue) : Type 0 where
-  pub id : e.id ≡ other.id
-  pub version : e.version ≡ other.version
-  pub nonce : e.nonce ≡ other.nonce
-
-tied-alike : (e other : ElementValue) → are_tied e other ≡ true → AreAlike e other
-tied-alike e other h =
-    let outer = and_parts (bytes_eq e.id other.id) ((e.version == other.version) && (e.nonce == other.nonce)) h in
-    let inner = and_parts (e.version == other.version) (e.nonce == other.nonce) outer.1 in
-    record {
-      id = (bytes_eq-Decides e.id other.id).0 outer.0;
-      version = eqb-true e.version other.version inner.0;
-      nonce = eqb-true e.nonce other.nonce inner.1;
-    }
-
 -- where those behind are apart from those before, and are the only ones of their ids
 pub free-more : (elements more : List ElementValue) → IsFreeOfClashes elements
     → ((e x : ElementValue) → Contains more e → Contains elements x → AreAlike e x → ⊥)

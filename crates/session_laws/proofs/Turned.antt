@@ -1,16 +1,15 @@
 -- Undo and redo over the events of a session: what was comes back, and comes again.
-use Rattle.std.proofs.Common.{◌≡◌, ◌≤◌, ◌<◌, ◌+◌, ◌-◌, ℕ, List, [], ◌∷◌, ◌++◌, length, take, drop, map, None, refl, sym, ap, ◌∙◌, subst, length-append, arith}
+use Rattle.std.proofs.Common.{◌≡◌, ◌≤◌, ◌<◌, ◌+◌, ◌-◌, ℕ, List, [], ◌∷◌, ◌++◌, length, take, drop, map, refl, sym, ap, ◌∙◌, subst, length-append, arith}
 use Rattle.std.specs.List.{AllByRecursion}
 use Rattle.std.proofs.Math.Seq.{take-append_seam}
 use Rattle.elem.specs.ElementValue.{ElementValue}
 use Rattle.elem.specs.Order.{unstamped}
-use Rattle.delta.specs.Pairs.{Pair}
 use Rattle.undoing.specs.Differing.{pending}
 use Rattle.history.specs.declared.planned.Direction.TheVariants as directions
 use Rattle.replica.specs.Back.{IsAs, HasNothingPending, IsCaptured, IsFound, changed, changed_all, AreChanges, undone_all, redone_all, AreUndos, AreRedos}
 use Rattle.replica.specs.Sound.{IsSoundState}
-use Rattle.replica.specs.State.{State, noted, captured, stored_with, undo_on, redo_on}
-use Rattle.replica.proofs.CallerLemmas.{captured-none, undone-all, undo-is_found, redone-is, redo-is_found, step-found}
+use Rattle.replica.specs.State.{State, captured, stored_with, undo_on, redo_on}
+use Rattle.replica.proofs.CallerLemmas.{captured-none, undone-all, undo-is_found, redone-is, redo-is_found, step-found, noted-stored}
 use Rattle.session_text.specs.Facts.{IsSession}
 use Rattle.session_text.specs.declared.event.Event.{Event}
 use Rattle.session_text.specs.declared.session.Session.{Session}
@@ -47,9 +46,6 @@ changes-append [] more s are are' = are'
 changes-append (given ∷ givens) more s are are' = (are.0, changes-append givens more (changed given s) are.1 are')
 
 -- ---- after a change nothing is pending
-noted-stored : (entry : List Pair) (s : State) → (noted entry s).stored ≡ s.stored
-noted-stored [] s = refl
-noted-stored (pair ∷ entry) s = refl
 
 changed-captured : (given : List ElementValue) (s : State) → IsCaptured (changed given s)
 changed-captured given s =

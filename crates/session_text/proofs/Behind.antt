@@ -1,10 +1,11 @@
 -- What stands behind an offset: white space alone, an event with a fault, or too many events.
-use Rattle.std.proofs.Common.{◌≡◌, ◌⊎◌, inl, inr, ℕ, ◌+◌, ◌==◌, ◌≤◌, ◌<◌, List, [], ◌∷◌, Bool, true, false, Option, None, Some, IfSome, is_none, length, drop, refl, sym, ap, subst, arith, length-drop}
-use Rattle.std.specs.List.{list_all, prefix_len}
+use Rattle.std.proofs.Common.{◌≡◌, ◌⊎◌, inl, inr, ℕ, ◌+◌, ◌==◌, ◌≤◌, ◌<◌, List, [], Bool, true, false, Option, None, Some, IfSome, is_none, length, drop, refl, sym, ap, subst, arith, length-drop}
+use Rattle.std.specs.List.{prefix_len}
 use Rattle.std.proofs.lemmas.Bool.{false≢true}
 use Rattle.std.proofs.lemmas.Bool.Decides.{nat_tests}
 use Rattle.json_text.specs.Characters.{is_blank, is_space}
 use Rattle.json_text.specs.Value.{Stands}
+use Rattle.json_text.proofs.CallerLemmas.{run-blank, run-more}
 use Rattle.json_reader.specs.Faults.{IsFirstFault}
 use Rattle.json_reader.specs.declared.fault.JsonFault.{JsonFault}
 use Rattle.session_text.specs.Events.{HeaderText, EventText, header}
@@ -17,35 +18,14 @@ use Rattle.session_text.specs.declared.session.Session.{Session}
 use Rattle.session_text.proofs.SessionsOne.{leads-more}
 
 -- ---- white space
--- All elements pass, and the run that passes is the whole list; or neither is so.
-abbrev Runs : (ℕ → Bool) → List ℕ → Type 0
-Runs p xs =
-    ((list_all p xs ≡ true) × (prefix_len p xs ≡ length xs)) ⊎ ((list_all p xs ≡ false) × (prefix_len p xs < length xs))
-
-runs-more : (p : ℕ → Bool) (x : ℕ) (xs : List ℕ) (b : Bool) → p x ≡ b → Runs p xs → Runs p (x ∷ xs)
-runs-more p x xs false fails rest = inr (rw fails refl, rw fails (omega arith))
-runs-more p x xs true passes (inl h) = inl (rw (passes, h.0) refl, rw (passes, h.1) (omega arith))
-runs-more p x xs true passes (inr h) = inr (rw (passes, h.0) refl, rw passes (omega (arith, h.1)))
-
-runs-either : (p : ℕ → Bool) (xs : List ℕ) → Runs p xs
-runs-either p [] = inl (refl, refl)
-runs-either p (x ∷ xs) = runs-more p x xs (p x) refl (runs-either p xs)
 
 pub blank-at : (bytes : List ℕ) (at : ℕ) → at ≤ length bytes → length bytes ≤ at + prefix_len is_space (drop at bytes)
     → is_blank (drop at bytes) ≡ true
-blank-at bytes at within ends =
-    elim (runs-either is_space (drop at bytes)) [
-      | inl h ↦ h.0
-      | inr h ↦ absurd (omega (arith, h.1, length-drop at bytes))
-    ]
+blank-at bytes at within ends = run-blank (drop at bytes) (omega (arith, length-drop at bytes))
 
 pub more-at : (bytes : List ℕ) (at : ℕ) → at ≤ length bytes → at + prefix_len is_space (drop at bytes) < length bytes
     → is_blank (drop at bytes) ≡ false
-more-at bytes at within ends =
-    elim (runs-either is_space (drop at bytes)) [
-      | inl h ↦ absurd (omega (arith, h.1, length-drop at bytes))
-      | inr h ↦ h.0
-    ]
+more-at bytes at within ends = run-more (drop at bytes) (omega (arith, length-drop at bytes))
 
 -- ---- the session so far
 pub fewer-events : (session : Session) → length session.events ≤ most_events → is_full (Some session) ≡ false
@@ -101,7 +81,7 @@ too-many bytes (Some session) at lead full more =
     all : (n most : ℕ) → (n == most) ≡ true → n ≡ most
     all n most e = grind (arith, nat_tests)
 
-begun-at : (more : Bool) → (false ≡ true) ⊎ (more ≡ false) → more ≡ false
+pub begun-at : (more : Bool) → (false ≡ true) ⊎ (more ≡ false) → more ≡ false
 begun-at more (inl never) = absurd (false≢true never)
 begun-at more (inr is) = is
 

@@ -42,7 +42,7 @@ use Rattle.session_text.proofs.Readings.{then-ok, gives-ok}
 use Rattle.board_commands.specs.Written.{IsWrittenCommand}
 
 -- ---- elements
-whole-elements : (elements : List ElementValue) → All IsWholeElement elements → AreElements elements
+pub whole-elements : (elements : List ElementValue) → All IsWholeElement elements → AreElements elements
 whole-elements elements all =
     All-weaker IsWholeElement (λ e. IsElement e × HasValidTexts e)
     (λ e whole. let sound = IsSound-read (element_text e) e whole in (sound.is_element, sound.written)) elements all

@@ -2,6 +2,7 @@
 use Rattle.std.proofs.Common.{◌≡◌, ◌≢◌, ◌⊎◌, inl, inr, ℕ, List, [], ◌∷◌, Option, Some, None, codes, decimal, bytes_eq, refl, sym, ap, ap₂, subst, ◌∙◌, arith, lit≤}
 use Rattle.std.specs.List.{AllByRecursion}
 use Rattle.std.proofs.lemmas.Bool.{cases_Bool, cases_lt, both_ways}
+use Rattle.std.proofs.lemmas.Option.{same_Some}
 use Rattle.json_text.specs.Characters.{quote}
 use Rattle.json_text.specs.Compact.{Member as Pair}
 use Rattle.json_text.specs.Value.{IsCompact}
@@ -21,9 +22,6 @@ use Rattle.board_commands.specs.declared.command.Capture.TheVariants as captures
 use Rattle.session_text.specs.declared.event.Pick.{Pick}
 use Rattle.session_text.specs.declared.event.Pick.TheVariants as chosen
 use Rattle.session_text.proofs.Words.{AreTold, word-once, word-or-not, all_captures, captures-told, all_sides, sides-told}
-
-pub same-some : {A : Type 0} {x y : A} → Some x ≡ Some y → x ≡ y
-same-some e = cc
 
 -- ---- numbers
 pub from-once : (least limit : ℕ) (found : Option (List ℕ)) (a b : ℕ) → IsFrom least limit found a
@@ -48,17 +46,17 @@ there-or-not None = inr (λ v e. cc)
 there-or-not (Some v) = inl (v, refl)
 
 pub there-once : (found : Option (List ℕ)) (a b : List ℕ) → IsThere found a → IsThere found b → a ≡ b
-there-once found a b one two = same-some (sym one ∙ two)
+there-once found a b one two = same_Some _ _ (sym one ∙ two)
 
 pub array-decided : (found : Option (List ℕ)) → Fits found → Decided (IsArray found)
 array-decided None fits = inr (λ items is. let e = is.1 in cc)
 array-decided (Some value) fits = elim (array-or-not value fits) [
   | inl (items, all, e) ↦ inl (items, (all, ap Some e))
-  | inr none ↦ inr (λ items is. none items (same-some is.1))
+  | inr none ↦ inr (λ items is. none items (same_Some _ _ is.1))
 ]
 
 pub array-alike : (found : Option (List ℕ)) (a b : List (List ℕ)) → IsArray found a → IsArray found b → a ≡ b
-array-alike found a b one two = array-once a b one.0 two.0 (same-some (sym one.1 ∙ two.1))
+array-alike found a b one two = array-once a b one.0 two.0 (same_Some _ _ (sym one.1 ∙ two.1))
 
 pub object-decided : (value : List ℕ) → IsCompact 128 value → Decided (IsObject value)
 object-decided value is = elim (object-or-not value is) [
@@ -70,22 +68,22 @@ pub has-decided : (found : Option (List ℕ)) → Fits found → Decided (HasObj
 has-decided None fits = inr (λ members is. let e = is.1 in cc)
 has-decided (Some value) fits = elim (object-decided value fits) [
   | inl (members, object) ↦ inl (members, (value, refl, object))
-  | inr none ↦ inr (λ members is. none members (subst (λ v. IsObject v members) (same-some (sym is.1)) is.2))
+  | inr none ↦ inr (λ members is. none members (subst (λ v. IsObject v members) (same_Some _ _ (sym is.1)) is.2))
 ]
 
 pub has-once : (found : Option (List ℕ)) (a b : List Pair) → HasObject found a → HasObject found b → a ≡ b
 has-once found a b one two =
-    members-once two.0 a b (subst (λ v. IsObject v a) (same-some (sym one.1 ∙ two.1)) one.2) two.2
+    members-once two.0 a b (subst (λ v. IsObject v a) (same_Some _ _ (sym one.1 ∙ two.1)) one.2) two.2
 
 pub shallow-decided : (found : Option (List ℕ)) → Fits found → Decided (IsShallow found)
 shallow-decided None fits = inr (λ v is. let e = is.0 in cc)
 shallow-decided (Some value) fits = elim (nests-or-not value 100 fits) [
   | inl is ↦ inl (value, (refl, is))
-  | inr none ↦ inr (λ v is. none (subst (IsCompact 100) (same-some (sym is.0)) is.1))
+  | inr none ↦ inr (λ v is. none (subst (IsCompact 100) (same_Some _ _ (sym is.0)) is.1))
 ]
 
 pub shallow-once : (found : Option (List ℕ)) (a b : List ℕ) → IsShallow found a → IsShallow found b → a ≡ b
-shallow-once found a b one two = same-some (sym one.0 ∙ two.0)
+shallow-once found a b one two = same_Some _ _ (sym one.0 ∙ two.0)
 
 -- ---- texts and words
 pub ids-decided : (found : Option (List ℕ)) → Fits found → Decided (AreIds found)
@@ -102,13 +100,13 @@ pub told-decided : {A : Type 0} (word : A → List ℕ) (xs : List A) → AreTol
 told-decided word xs told None = inr (λ x e. cc)
 told-decided word xs told (Some value) = elim (word-or-not word xs told value) [
   | inl (x, e) ↦ inl (x, ap Some e)
-  | inr none ↦ inr (λ x e. none x (same-some e))
+  | inr none ↦ inr (λ x e. none x (same_Some _ _ e))
 ]
 
 pub told-once : {A : Type 0} (word : A → List ℕ) (xs : List A) → AreTold word xs → (found : Option (List ℕ)) (x y : A)
     → found ≡ Some (word x) → found ≡ Some (word y) → x ≡ y
 told-once word xs told None x y e f = cc
-told-once word xs told (Some value) x y e f = word-once word xs told value x y (same-some e) (same-some f)
+told-once word xs told (Some value) x y e f = word-once word xs told value x y (same_Some _ _ e) (same_Some _ _ f)
 
 pub capture-decided : (found : Option (List ℕ)) → Decided (IsCapture found)
 capture-decided None = inl (captures.Now, refl)
@@ -216,8 +214,8 @@ pub number-array : (item : List ℕ) (n : ℕ) (parts : List (List ℕ)) → IsW
     → IsArray (Some item) parts → ⊥
 number-array item n parts whole array =
     let starts = array-starts parts in
-    let is : item ≡ 91 ∷ starts.0 = same-some array.1 ∙ starts.1 in
-    let digits : 91 ∷ starts.0 ≡ decimal n = sym is ∙ same-some whole.1 in
+    let is : item ≡ 91 ∷ starts.0 = same_Some _ _ array.1 ∙ starts.1 in
+    let digits : 91 ∷ starts.0 ≡ decimal n = sym is ∙ same_Some _ _ whole.1 in
     let range = digit_of_decimal (91 ∷ starts.0) n 0 (omega (arith, whole.0)) digits (omega arith) in
     absurd (omega (arith, range.1))
 

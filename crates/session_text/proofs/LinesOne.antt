@@ -5,7 +5,7 @@ use Rattle.json_text.specs.Parts.{AreMembers}
 use Rattle.json_text.specs.Value.{IsCompact}
 use Rattle.scene_json.specs.Named.{value_at}
 use Rattle.scene_file.specs.Reading.{value_unless_null}
-use Rattle.clips.proofs.CallerLemmas.{fits-given}
+use Rattle.scene_file.proofs.CallerLemmas.{fits-value_unless_null}
 use Rattle.session_text.specs.Lines.{OpeningOf, OpeningText, line_name_text, IsLineName, LineNamed, LineOf, LineText}
 use Rattle.session_text.specs.Reads.{MemberOf}
 use Rattle.session_text.specs.declared.fault.TextFault.{TextFault}
@@ -26,7 +26,8 @@ members-open members are =
     then-one _ _ (from-one 1 2 members names.Replica) (λ version is.
     then-one _ _ (from-one 0 64 members names.Number) (λ number also.
     then-one _ _ (whole-one members names.Seed) (λ seed too.
-    then-one _ _ (scene-one (value_unless_null (codes "scene") members) (fits-given (codes "scene") members are))
+    then-one _ _ (scene-one (value_unless_null (codes "scene") members)
+    (fits-value_unless_null (codes "scene") members are))
     (λ scene last. gives-one _))))
 
 -- ---- the lines behind it

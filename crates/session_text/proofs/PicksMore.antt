@@ -1,5 +1,6 @@
 -- What items pick, one after the other.
 use Rattle.std.proofs.Common.{◌≡◌, ℕ, zero, suc, ◌<◌, List, [], ◌∷◌, ◌++◌, length, take, get_or, refl, sym, ap, subst, arith}
+use Rattle.json_text.proofs.CallerLemmas.{take-next}
 use Rattle.elem_read.specs.Faults.{Lacks}
 use Rattle.session_text.specs.Forms.{IsPick, ArePicks}
 use Rattle.session_text.specs.declared.event.Pick.{Pick}
@@ -9,12 +10,6 @@ picks-push : (made : ℕ) (items : List (List ℕ)) (picks : List Pick) (item : 
 picks-push made [] picks item pick are is = (pick, [], ap (λ ps. ps ++ pick ∷ []) are, is, refl)
 picks-push made (first ∷ items) picks item pick (p, ps, same, one, more) is =
     (p, ps ++ pick ∷ [], ap (λ qs. qs ++ pick ∷ []) same, one, picks-push made items ps item pick more is)
-
-take-next : {X : Type 0} (xs : List X) (i : ℕ) (x : X) → i < length xs → x ≡ get_or xs i x
-    → take (suc i) xs ≡ take i xs ++ x ∷ []
-take-next [] i x h e = absurd (omega arith)
-take-next (y ∷ ys) zero x h e = ap (λ z. z ∷ []) (sym e)
-take-next (y ∷ ys) (suc i) x h e = ap (λ rest. y ∷ rest) (take-next ys i x (omega arith) e)
 
 pub picks-more : (made : ℕ) (items : List (List ℕ)) (i : ℕ) (item : List ℕ) (picks : List Pick) (pick : Pick)
     → i < length items → item ≡ get_or items i item → ArePicks made (take i items) picks → IsPick made item pick

@@ -8,7 +8,7 @@ use Rattle.elem.specs.Forms.{IsWholeNumber, IsObject}
 use Rattle.elem.proofs.CallerLemmas.{text-once, whole-once, members-once}
 use Rattle.elem_read.proofs.CallerLemmas.{Fits, fits-in, text-or-not, whole-or-not}
 use Rattle.scene_file.specs.Reading as scene_reading
-use Rattle.clips.proofs.CallerLemmas.{fits-given}
+use Rattle.scene_file.proofs.CallerLemmas.{fits-value_unless_null}
 use Rattle.session_text.specs.Commands.{asked_text, IsAsked, TextOf, ElementOf, ClipOf, IdsOf, IdsAnd, EndOf, CommandNamed, CommandOf}
 use Rattle.session_text.specs.Events.{HeaderOf, happening_text, IsHappening, TimeOf, HeldOf, CommandIn, ElementsIn, EventNamed, EventOf, HeaderText, EventText}
 use Rattle.session_text.specs.Forms.{IsFrom, IsShallow, IsCapture, IsSide, IsSpot, IsRest, HasPicks, side_text}
@@ -157,7 +157,7 @@ header-one members are =
     then-one _ _ (from-one 1 65 members names.Replicas) (λ replicas also.
     then-one _ _ (whole-one members names.Seed) (λ seed too.
     then-one _ _ (scene-one (scene_reading.value_unless_null (codes "scene") members)
-    (fits-given (codes "scene") members are)) (λ scene last. gives-one _))))
+    (fits-value_unless_null (codes "scene") members are)) (λ scene last. gives-one _))))
 
 pub command_in-one : (members : List Pair) → AreMembers 127 members → IsOne (CommandIn members)
 command_in-one members are =

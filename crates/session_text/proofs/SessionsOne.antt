@@ -1,9 +1,9 @@
 -- Bytes are one session, or have one first fault, and not both.
-use Rattle.std.proofs.Common.{◌≡◌, ◌⊎◌, inl, inr, ℕ, zero, suc, ◌+◌, ◌≤◌, ◌<◌, List, [], ◌∷◌, ◌++◌, true, false, Result, Ok, Err, length, drop, refl, sym, ap, ap₂, subst, ◌∙◌, arith, length-drop, length-append}
+use Rattle.std.proofs.Common.{◌≡◌, ◌⊎◌, inl, inr, ℕ, zero, suc, ◌+◌, ◌≤◌, ◌<◌, List, [], ◌∷◌, ◌++◌, true, false, Result, Ok, Err, length, drop, refl, sym, ap, ap₂, subst, ◌∙◌, arith, length-append}
 use Rattle.std.proofs.lemmas.Bool.{cases_Bool, cases_lt, both_ways}
 use Rattle.json_text.specs.Characters.{is_blank}
 use Rattle.json_text.specs.Value.{IsCompact, Stands}
-use Rattle.json_text.proofs.CallerLemmas.{Value-compact, Stands-once}
+use Rattle.json_text.proofs.CallerLemmas.{Value-compact, Stands-once, drop-once}
 use Rattle.json_reader.proofs.CallerLemmas.{value-or-fault}
 use Rattle.json_reader.proofs.CallerLemmas as json
 use Rattle.scene_file.proofs.CallerLemmas.{Stands-no_blank, Stands-behind}
@@ -148,12 +148,6 @@ events-once (suc most) replicas made bytes rest end (e ∷ es) (d ∷ ds) (next,
     shorter most replicas made e es rest (inr none) = inr none
 
 -- ---- the bytes
--- Offsets within a text that leave the same of it are one.
-drop-once : (bytes : List ℕ) (at next : ℕ) → at ≤ length bytes → next ≤ length bytes
-    → drop at bytes ≡ drop next bytes
-    → at ≡ next
-drop-once bytes at next within also same =
-    omega (arith, ap length same, length-drop at bytes, length-drop next bytes)
 
 -- where events end
 record Ends (bytes : List ℕ) (head : Header) (events : List Event) (end : ℕ) : Type 0 where

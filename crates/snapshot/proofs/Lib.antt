@@ -1,4 +1,3 @@
-pub mod FollowLaws
 pub mod PutLaws
 pub mod CapturedLaws
 pub mod PendingLaws

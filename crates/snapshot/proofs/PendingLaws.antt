@@ -1,14 +1,14 @@
 -- The pairs of the first stored elements.
 use Rattle.std.proofs.Common.{◌≡◌, ℕ, ◌+◌, ◌<◌, true, List, [], ◌∷◌, ◌++◌, length, take, map, get_or, Some, None, Contains, slice_get, sym, ap, ◌∙◌, subst₂, length-take, arith}
 use Rattle.std.proofs.lemmas.List.{map-append, take_more, get_or-take}
-use Rattle.std.proofs.lemmas.Option.{none-some, slice_get_within, get_or_from_slice_get}
+use Rattle.std.proofs.lemmas.Option.{slice_get_within, get_or_from_slice_get}
 use Rattle.frac_keys.specs.Keys.{bytes_less}
 use Rattle.frac_keys.specs.Rising.{are_rising}
+use Rattle.json_text.proofs.CallerLemmas.{Contains-map}
 use Rattle.elem.specs.ElementValue.{ElementValue}
 use Rattle.delta.specs.Pairs.{Pair, pair_with}
 use Rattle.elem_store.specs.Updates.{element_of, ids_of}
-use Rattle.elem_store.proofs.CallerLemmas.{some_within, earlier_less}
-use Rattle.delta.proofs.CallerLemmas.{Contains-map}
+use Rattle.elem_store.proofs.CallerLemmas.{earlier_less}
 use Rattle.snapshot.specs.Pending.{pairs_since}
 
 module _ (snapshot store : List ElementValue) (i : ℕ) (e : ElementValue) (at : slice_get store i ≡ Some e) where
@@ -37,7 +37,3 @@ module _ (snapshot store : List ElementValue) (i : ℕ) (e : ElementValue) (at :
       ∙ ap (λ (p : Pair). p.after.id) own.2)
       (ap (λ (x : ElementValue). x.id) (get_or_from_slice_get store i e own.0 at))
       (earlier_less None None store own.1.0 i own.0 rising low within)
-
--- there is an element at each index below the number of elements
-pub stored-at : (store : List ElementValue) (i : ℕ) → i < length store → None ≡ slice_get store i → ⊥
-stored-at store i l none = absurd (let x = some_within store i l in none-some x.0 (none ∙ x.1))

@@ -5,6 +5,7 @@ use Rattle.std.proofs.lemmas.Bool.{cond-true}
 use Rattle.std.proofs.lemmas.List.{take_more}
 use Rattle.std.proofs.lemmas.Option.{slice_get_within, get_or_from_slice_get}
 use Rattle.frac_keys.specs.Rising.{are_rising}
+use Rattle.json_text.proofs.CallerLemmas.{Contains-map, Contains-to_map}
 use Rattle.elem.specs.ElementValue.{ElementValue}
 use Rattle.elem.specs.Order.{unstamped, has_id}
 use Rattle.elem_store.specs.Updates.{element_of, ids_of, is_newer, is_taken, takings, Taking}
@@ -12,14 +13,14 @@ use Rattle.elem_store.proofs.CallerLemmas.{find-Some, member, AreStored-itself, 
 use Rattle.delta.specs.Delta.{Delta}
 use Rattle.delta.specs.Pairs.{Pair, pair_with, IsUnchanged, EntryStandsFor, IsSamePair, HasSamePairs}
 use Rattle.delta.specs.Parts.{counted}
-use Rattle.delta.proofs.CallerLemmas.{entry-unstamped, none-earlier, Contains-map, Contains-to_map, rising-front}
+use Rattle.delta.proofs.CallerLemmas.{entry-unstamped, none-earlier, rising-front}
 use Rattle.undoing.specs.Carrying.{with_put, with_all_put, taken, taken_all, followed, carried_over, carried_all}
 use Rattle.undoing.specs.Differing.{same_kind}
 use Rattle.undoing.specs.Undoing.{undone}
-use Rattle.undoing.proofs.CallerLemmas.{taken-has}
+use Rattle.undoing.proofs.CallerLemmas.{taken-has, put-rising}
 use Rattle.snapshot.specs.Carried.{carried_to, with_made}
 use Rattle.snapshot.specs.Pending.{pairs_since}
-use Rattle.snapshot.proofs.PutLaws.{rises, put-below, put-there, all-rise, all-each, all-append, all-below, all-cover, taken_all-put}
+use Rattle.snapshot.proofs.PutLaws.{put-below, put-there, all-rise, all-each, all-append, all-below, all-cover, taken_all-put}
 
 -- ---- an entry of some elements stands for those over the others too
 module _ (captured step : List ElementValue) (rise : are_rising (ids_of step) ≡ true)
@@ -104,7 +105,7 @@ module _ (captured store : List ElementValue) (captured_rise : are_rising (ids_o
   differ-more copies new o rise over own (inl put) = (
     ap (λ es. with_all_put es captured) put ∙ put-below e copies captured rise captured_rise ∙ ap (with_put e) over
         ∙ sym next,
-    ap (λ es. are_rising (ids_of es)) put ∙ rises e copies rise,
+    ap (λ es. are_rising (ids_of es)) put ∙ put-rising e copies rise,
   )
   differ-more copies new o rise over own (inr same) = (
     ap (λ es. with_all_put es captured) same.0 ∙ over
@@ -142,7 +143,7 @@ carried_over-to (Some old) new snapshot = to (same_kind old.kind new.kind) (elem
 pub made-rises : (made : Option ElementValue) (xs : List ElementValue) → are_rising (ids_of xs) ≡ true
     → are_rising (ids_of (with_made made xs)) ≡ true
 made-rises None xs h = h
-made-rises (Some e) xs h = rises e xs h
+made-rises (Some e) xs h = put-rising e xs h
 
 made-below : (made : Option ElementValue) (ys zs : List ElementValue) → are_rising (ids_of ys) ≡ true
     → are_rising (ids_of zs) ≡ true → with_all_put (with_made made ys) zs ≡ with_made made (with_all_put ys zs)
@@ -202,7 +203,7 @@ carry-more stored captured newer step news steps e more stored_rise newer_rise n
           (sym (takings-more now e more (all-rise newer stored stored_rise))),
       ap (λ es. are_rising (ids_of es)) new
           ∙ (elim (is_taken now e) as (λ b. are_rising (ids_of (cond b (with_put e newer) newer)) ≡ true)
-          [ true ↦ rises e newer newer_rise | false ↦ newer_rise ]),
+          [ true ↦ put-rising e newer newer_rise | false ↦ newer_rise ]),
     )
   where
     own : (b : Bool) → carried_all (takings (with_all_put (cond b (with_put e newer) newer) stored) more)

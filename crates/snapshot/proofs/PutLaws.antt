@@ -9,14 +9,11 @@ use Rattle.elem.specs.ElementValue.{ElementValue}
 use Rattle.elem.specs.Order.{has_id}
 use Rattle.elem_store.specs.Updates.{element_of, ids_of, is_newer, is_taken}
 use Rattle.elem_store.proofs.CallerLemmas.{same_id, of_other, above, less-other, none_above, same_elements}
-use Rattle.delta.proofs.CallerLemmas.{rising-put}
 use Rattle.undoing.specs.Carrying.{with_put, with_all_put, taken_all}
+use Rattle.undoing.proofs.CallerLemmas.{put-rising}
 use Rattle.snapshot.specs.Carried.{HasPut}
 
 -- ---- one more
-pub rises : (x : ElementValue) (xs : List ElementValue) → are_rising (ids_of xs) ≡ true
-    → are_rising (ids_of (with_put x xs)) ≡ true
-rises x xs h = rising-put (λ (e : ElementValue). e.id) x xs h
 
 -- it is the element of its id, and the others stay, whether the ids rise or not
 pub put-each : (x : ElementValue) (xs : List ElementValue) (id : List ℕ)
@@ -54,18 +51,18 @@ put-each x (y ∷ ys) id =
 pub put-is : (before after : List ElementValue) (e : ElementValue) → are_rising (ids_of before) ≡ true
     → HasPut before e after → after ≡ with_put e before
 put-is before after e rising put =
-    same_elements after (with_put e before) put.ordered (rises e before rising) (λ id. put.each id
+    same_elements after (with_put e before) put.ordered (put-rising e before rising) (λ id. put.each id
     ∙ sym (put-each e before id))
 
 pub HasPut-put : (before : List ElementValue) (e : ElementValue) → are_rising (ids_of before) ≡ true
     → HasPut before e (with_put e before)
-HasPut-put before e rising = record { ordered = rises e before rising; each = put-each e before }
+HasPut-put before e rising = record { ordered = put-rising e before rising; each = put-each e before }
 
 -- one that is there already
 pub put-there : (x : ElementValue) (xs : List ElementValue) → are_rising (ids_of xs) ≡ true
     → element_of xs x.id ≡ Some x → with_put x xs ≡ xs
 put-there x xs h there =
-    same_elements (with_put x xs) xs (rises x xs h) h (λ id. put-each x xs id ∙ (elim (cases_Bool (has_id id x)) [
+    same_elements (with_put x xs) xs (put-rising x xs h) h (λ id. put-each x xs id ∙ (elim (cases_Bool (has_id id x)) [
       | inl t ↦ cond-true (has_id id x) (Some x) (element_of xs id) t ∙ sym there
           ∙ ap (element_of xs) (sym (same_id id x t))
       | inr f ↦ cond-false (has_id id x) (Some x) (element_of xs id) f
@@ -75,7 +72,7 @@ put-there x xs h there =
 pub all-rise : (news xs : List ElementValue) → are_rising (ids_of xs) ≡ true
     → are_rising (ids_of (with_all_put news xs)) ≡ true
 all-rise [] xs h = h
-all-rise (x ∷ news) xs h = all-rise news (with_put x xs) (rises x xs h)
+all-rise (x ∷ news) xs h = all-rise news (with_put x xs) (put-rising x xs h)
 
 pub all-append : (news more xs : List ElementValue) → with_all_put (news ++ more) xs
     ≡ with_all_put more (with_all_put news xs)
@@ -114,8 +111,9 @@ pub put-below : (x : ElementValue) (ys zs : List ElementValue) → are_rising (i
     → are_rising (ids_of zs) ≡ true → with_all_put (with_put x ys) zs ≡ with_put x (with_all_put ys zs)
 put-below x ys zs h k =
     same_elements (with_all_put (with_put x ys) zs) (with_put x (with_all_put ys zs)) (all-rise (with_put x ys) zs k)
-    (rises x (with_all_put ys zs) (all-rise ys zs k))
-    (λ id. all-each (with_put x ys) zs id (rises x ys h) ∙ ap (λ o. option_or o (element_of zs id)) (put-each x ys id)
+    (put-rising x (with_all_put ys zs) (all-rise ys zs k))
+    (λ id. all-each (with_put x ys) zs id (put-rising x ys h)
+    ∙ ap (λ o. option_or o (element_of zs id)) (put-each x ys id)
     ∙ over (has_id id x) x (element_of ys id) (element_of zs id)
     ∙ sym (put-each x (with_all_put ys zs) id ∙ ap (cond (has_id id x) (Some x)) (all-each ys zs id h)))
 
@@ -123,7 +121,7 @@ pub all-below : (news ys zs : List ElementValue) → are_rising (ids_of ys) ≡ 
     → with_all_put (with_all_put news ys) zs ≡ with_all_put news (with_all_put ys zs)
 all-below [] ys zs h k = refl
 all-below (x ∷ news) ys zs h k =
-    all-below news (with_put x ys) zs (rises x ys h) k ∙ ap (with_all_put news) (put-below x ys zs h k)
+    all-below news (with_put x ys) zs (put-rising x ys h) k ∙ ap (with_all_put news) (put-below x ys zs h k)
 
 -- elements over some that have no other ids
 covered : (o p : Option ElementValue) → (IsSome p → IsSome o) → option_or o p ≡ o

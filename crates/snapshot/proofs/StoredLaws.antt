@@ -3,7 +3,7 @@ use Rattle.std.proofs.Common.{◌≡◌, ℕ, Bool, true, false, cond, List, [],
 use Rattle.std.specs.Option.{option_map}
 use Rattle.std.proofs.lemmas.Bool.{cases_Bool, cond-true, cond-false, false≢true}
 use Rattle.std.proofs.lemmas.Option.{none-some, same_Some}
-use Rattle.json_text.proofs.CallerLemmas.{bytes_eq-true, bytes_eq-same}
+use Rattle.json_text.proofs.CallerLemmas.{bytes_eq-true, Contains-map}
 use Rattle.frac_keys.specs.Rising.{are_rising}
 use Rattle.elem.specs.declared.kind.Kind.{Kind}
 use Rattle.elem.specs.ElementValue.{ElementValue}
@@ -13,19 +13,17 @@ use Rattle.elem_store.specs.Updates.{element_of, ids_of, is_taken, takings, Taki
 use Rattle.elem_store.proofs.CallerLemmas.{same_id, of_itself, Contains-cases, filter-Contains}
 use Rattle.delta.specs.Delta.{Delta}
 use Rattle.delta.specs.Pairs.{Pair, pair_with, IsPartOf, EntryStandsFor}
-use Rattle.delta.proofs.CallerLemmas.{Contains-map}
 use Rattle.undoing.specs.Carrying.{with_put, carried, carried_all, carried_over, taken, taken_all}
 use Rattle.undoing.specs.Differing.{same_kind, is_changed, pending}
 use Rattle.undoing.specs.Undoing.{undone, undone_in}
+use Rattle.undoing.proofs.CallerLemmas.{put-rising, same_kind-same}
 use Rattle.snapshot.specs.Carried.{carried_to, with_made, AreOfStoredKinds}
 use Rattle.snapshot.specs.Pending.{pairs_since}
 use Rattle.snapshot.proofs.CapturedLaws.{found-id, made-id, none-made}
-use Rattle.snapshot.proofs.PutLaws.{put-each, rises}
+use Rattle.snapshot.proofs.PutLaws.{put-each}
 use Rattle.snapshot.proofs.PlanLaws.{carried_over-to, takings-more}
 
 -- ---- kinds
-kind-same : (kind : Kind) → same_kind kind kind ≡ true
-kind-same kind = bytes_eq-same (kind_name kind)
 
 kind-trans : (a b c : Kind) → same_kind a b ≡ true → same_kind b c ≡ true → same_kind a c ≡ true
 kind-trans a b c h k = ap (λ name. bytes_eq name (kind_name c)) (bytes_eq-true (kind_name a) (kind_name b) h) ∙ k
@@ -40,7 +38,7 @@ made-kind : (captured old : Option ElementValue) (new e : ElementValue)
     → ((h o : ElementValue) → captured ≡ Some h → old ≡ Some o → same_kind h.kind o.kind ≡ true)
     → Some e ≡ carried_to captured old new → same_kind e.kind new.kind ≡ true
 made-kind captured None new e kinds h =
-    ap (λ (x : ElementValue). same_kind x.kind new.kind) (same_Some e new h) ∙ kind-same new.kind
+    ap (λ (x : ElementValue). same_kind x.kind new.kind) (same_Some e new h) ∙ same_kind-same new.kind
 made-kind captured (Some old) new e kinds h =
     made (same_kind old.kind new.kind) captured refl (λ x is. kinds x old is refl) h
   where
@@ -49,7 +47,7 @@ made-kind captured (Some old) new e kinds h =
         → Some e ≡ cond b (option_map (undone (record { before = new; after = old })) captured) (Some new)
         → same_kind e.kind new.kind ≡ true
     made false captured k kinds h =
-        ap (λ (x : ElementValue). same_kind x.kind new.kind) (same_Some e new h) ∙ kind-same new.kind
+        ap (λ (x : ElementValue). same_kind x.kind new.kind) (same_Some e new h) ∙ same_kind-same new.kind
     made true None k kinds h = absurd (none-some e (sym h))
     made true (Some x) k kinds h =
         ap (λ kind. same_kind kind new.kind)
@@ -118,7 +116,7 @@ kinds-carried_all (e ∷ more) snapshot stored rise kinds =
     (elim (cases_Bool (is_taken stored e)) [
       | inl t ↦
           let now : taken e stored ≡ with_put e stored = cond-true (is_taken stored e) (with_put e stored) stored t in
-          let later = kinds-carried_all more (carried taking snapshot) (with_put e stored) (rises e stored rise)
+          let later = kinds-carried_all more (carried taking snapshot) (with_put e stored) (put-rising e stored rise)
           (subst (AreOfStoredKinds (carried taking snapshot)) now (kinds-carried snapshot stored e kinds t)) in
           subst (λ ts. AreOfStoredKinds (carried_all ts snapshot) (taken_all more (taken e stored)))
           (sym (cond-true (is_taken stored e) (taking ∷ takings (with_put e stored) more) (takings stored more) t))
@@ -134,7 +132,7 @@ kinds-carried_all (e ∷ more) snapshot stored rise kinds =
 
 -- stored elements are of their own kinds
 pub kinds-stored : (stored : List ElementValue) → AreOfStoredKinds stored stored
-kinds-stored stored id e has = (e, has, kind-same e.kind)
+kinds-stored stored id e has = (e, has, same_kind-same e.kind)
 
 -- an id of a snapshot is stored
 pub kinds-known : (snapshot stored : List ElementValue) (id : List ℕ) → AreOfStoredKinds snapshot stored

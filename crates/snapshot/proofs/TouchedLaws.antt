@@ -13,10 +13,11 @@ use Rattle.elem.specs.Order.{has_id}
 use Rattle.elem_store.specs.Updates.{element_of, ids_of, is_taken, takings, Taking}
 use Rattle.elem_store.proofs.CallerLemmas.{same_id, same_elements}
 use Rattle.undoing.specs.Carrying.{with_put, with_all_put, taken, taken_all, carried, carried_over, carried_all}
+use Rattle.undoing.proofs.CallerLemmas.{put-rising}
 use Rattle.snapshot.specs.Carried.{carried_to, with_made}
 use Rattle.snapshot.specs.Touched.{is_among, AreUntouched, StillTouches, IsTouched, HasTouched, HasPutStored}
 use Rattle.snapshot.proofs.CapturedLaws.{found-id, made-id}
-use Rattle.snapshot.proofs.PutLaws.{rises, put-each, put-below, put-there, all-rise, all-each}
+use Rattle.snapshot.proofs.PutLaws.{put-each, put-below, put-there, all-rise, all-each}
 use Rattle.snapshot.proofs.PlanLaws.{carried_over-to, made-rises, takings-more}
 
 -- ---- one id more
@@ -133,7 +134,7 @@ all-carried-other (e ∷ more) snapshot stored id rise n =
     ∙ (elim (is_taken stored e) as (λ b. element_of
     (carried_all (cond b (taking ∷ takings (with_put e stored) more) (takings stored more)) snapshot) id
     ≡ element_of snapshot id) [
-      | true ↦ all-carried-other more (carried taking snapshot) (with_put e stored) id (rises e stored rise) h.1
+      | true ↦ all-carried-other more (carried taking snapshot) (with_put e stored) id (put-rising e stored rise) h.1
           ∙ carried-other (element_of stored e.id) e snapshot id h.0
       | false ↦ all-carried-other more snapshot stored id rise h.1
     ])
@@ -247,7 +248,7 @@ module _ (stored : List ElementValue) where
 
       pub found-ordered : (o : Option ElementValue) → HasPutStored copies old o new → are_rising (ids_of new) ≡ true
       found-ordered None put = ap (λ es. are_rising (ids_of es)) put ∙ rise
-      found-ordered (Some e) (inl put) = ap (λ es. are_rising (ids_of es)) put ∙ rises e copies rise
+      found-ordered (Some e) (inl put) = ap (λ es. are_rising (ids_of es)) put ∙ put-rising e copies rise
       found-ordered (Some e) (inr same) = ap (λ es. are_rising (ids_of es)) same.0 ∙ rise
 
       pub found-found : (o : Option ElementValue) → o ≡ element_of stored id → HasPutStored copies old o new
@@ -276,3 +277,8 @@ module _ (stored : List ElementValue) where
               ∙ same id f ∙ sym (ap (option_or (element_of stored id)) (same id f) ∙ or-same (element_of stored id))
         ])
         ∙ sym (all-each stored captured id rise))
+
+-- a snapshot that is what is stored
+pub captured-untouched : (ids : List (List ℕ)) (snapshot stored : List ElementValue) → snapshot ≡ stored
+    → AreUntouched ids snapshot stored
+captured-untouched ids snapshot stored same id f = ap (λ es. element_of es id) same

@@ -4,9 +4,10 @@ pub use Rattle.undoing.proofs.DifferingLaws.{found-is, ids-from, pairs-elements,
 pub use Rattle.undoing.proofs.DifferingLaws.{pending-stands, rise-lower, same_kind-same, same_kind-true}
 pub use Rattle.undoing.proofs.LeavingLaws.{undone-leaves}
 pub use Rattle.undoing.proofs.StepLaws.{exchanged-entry, full-is, given-all, given-each, given-elements, given-rise}
-pub use Rattle.undoing.proofs.StepLaws.{given-taken, made-entry, sought-entries, step-sound, step-stops, step-turn}
+pub use Rattle.undoing.proofs.StepLaws.{given-taken, ids-exchanged, made-entry, sought-entries, step-sound, step-stops}
+pub use Rattle.undoing.proofs.StepLaws.{step-turn}
 pub use Rattle.undoing.proofs.TakenLaws.{Is, carried-elements, carried-rising, carried_all-elements, carried_all-rising}
-pub use Rattle.undoing.proofs.TakenLaws.{put-each, put-elements, taken-has, taken_all-elements, taken_all-is}
-pub use Rattle.undoing.proofs.TakenLaws.{taken_all-rising, taken_all-stored, takings-elements}
-pub use Rattle.undoing.proofs.UndoneLaws.{members-each, members-rising, restamped, reverts-undone, undone-element}
-pub use Rattle.undoing.proofs.UndoneLaws.{undone-stamp, undone-undoes, undone_in-undoes}
+pub use Rattle.undoing.proofs.TakenLaws.{put-each, put-elements, put-rising, taken-has, taken_all-elements}
+pub use Rattle.undoing.proofs.TakenLaws.{taken_all-is, taken_all-rising, taken_all-stored, takings-elements}
+pub use Rattle.undoing.proofs.UndoneLaws.{follows-undone, restamped, reverts-undone, undone-back, undone-element}
+pub use Rattle.undoing.proofs.UndoneLaws.{undone-stamp, undone-undoes}

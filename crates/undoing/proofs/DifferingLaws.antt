@@ -2,21 +2,21 @@
 use Rattle.std.proofs.Common.{◌≡◌, ◌≢◌, ℕ, Bool, true, false, cond, not, ◌&&◌, List, [], ◌∷◌, map, filter, Option, Some, None, Contains, bytes_eq, refl, sym, ap, ◌∙◌, subst, lit≤}
 use Rattle.std.proofs.lemmas.Bool.{false≢true, true_from_ne_false, not-false, and_parts, and_from}
 use Rattle.std.proofs.lemmas.List.Elements.{All-contains}
-use Rattle.json_text.proofs.CallerLemmas.{bytes_eq-true, bytes_eq-same}
+use Rattle.json_text.proofs.CallerLemmas.{bytes_eq-true, bytes_eq-same, Contains-map}
 use Rattle.frac_keys.specs.Rising.{ends_rise, rise_between, are_rising}
+use Rattle.frac_keys.proofs.CallerLemmas.{bytes_less-trans}
 use Rattle.elem.specs.declared.kind.Kind.{Kind}
 use Rattle.elem.specs.ElementValue.{ElementValue}
 use Rattle.elem.specs.Facts.{IsKind, IsElement}
 use Rattle.elem.specs.Order.{unstamped, has_id}
 use Rattle.elem.specs.Said.{HasValidTexts, AreElements}
 use Rattle.elem.specs.Texts.{kind_name, element_text}
-use Rattle.elem.proofs.CallerLemmas.{kind_of_name-once, text-of-one, bytes_less-trans, element_with_stamp, texts_with_stamp, element_with_deleted, texts_with_deleted}
+use Rattle.elem.proofs.CallerLemmas.{kind_of_name-once, text-of-one, element_with_stamp, texts_with_stamp, element_with_deleted, texts_with_deleted}
 use Rattle.elem_store.specs.Updates.{element_of, ids_of}
 use Rattle.elem_store.proofs.CallerLemmas.{same_id, Contains-filter, filter-Contains, find-Some}
 use Rattle.delta.specs.Delta.{Delta}
 use Rattle.delta.specs.Pairs.{Pair, pair_with, pairs_from, IsChanged, IsUnchanged, EntryStandsFor}
 use Rattle.delta.specs.Parts.{counted}
-use Rattle.delta.proofs.CallerLemmas.{Contains-map}
 use Rattle.undoing.specs.Differing.{same_kind, differ, is_changed, pending}
 use Rattle.undoing.specs.Entries.{IsOfElements, pair_ids, IsEntry}
 

@@ -7,6 +7,8 @@ use Rattle.std.proofs.lemmas.List.Elements.{All-contains_itself, All-weaker, All
 use Rattle.std.proofs.lemmas.Option.{none-some, same_Some, cond_some}
 use Rattle.frac_keys.specs.Keys.{bytes_less}
 use Rattle.frac_keys.specs.Rising.{ends_rise, rise_between, are_rising}
+use Rattle.frac_keys.proofs.CallerLemmas.{bytes_less_itself, bytes_less-asym}
+use Rattle.json_text.proofs.CallerLemmas.{Contains-map}
 use Rattle.elem.specs.ElementValue.{ElementValue}
 use Rattle.elem.specs.Facts.{IsElement, greatest_whole}
 use Rattle.elem.specs.Order.{unstamped}
@@ -16,7 +18,7 @@ use Rattle.elem.proofs.CallerLemmas.{bytes_less-same, bytes_less-asym, element_w
 use Rattle.elem_store.specs.Updates.{element_of, ids_of, is_taken, is_newer}
 use Rattle.elem_store.proofs.CallerLemmas.{Contains-head, Contains-cons, Contains-cases, find-Some, is_some-find, list_any-false}
 use Rattle.delta.specs.Pairs.{Pair, IsChanged, pair_with, exchanged}
-use Rattle.delta.proofs.CallerLemmas.{Contains-map, later_greater}
+use Rattle.delta.proofs.CallerLemmas.{later_greater}
 use Rattle.undoing.specs.Differing.{differ}
 use Rattle.undoing.specs.Entries.{IsOfElements, pair_ids, IsEntry, AreEntries, IsGiven, IsFullId, IsSoundTurn}
 use Rattle.undoing.specs.Steps.{Reverted, reverted, changes, is_full, is_seen, given_of, given, full_id, Sought, sought, Turn, made, turn_of, turn_unless, step}
@@ -167,7 +169,7 @@ module _ {X : Type 0} (id_of : X → List ℕ) (p : X → Bool) where
     | inl t ↦
         let here : z ≡ x = same_Some z x (sym (cond-true (p z) (Some z) (find p xs) t) ∙ found) in
         subst (λ w. bytes_less (id_of y) (id_of w) ≡ false) here (elim (Contains-cases z xs y c) [
-          | inl same ↦ subst (λ w. bytes_less (id_of w) (id_of z) ≡ false) same (bytes_less-same (id_of z))
+          | inl same ↦ subst (λ w. bytes_less (id_of w) (id_of z) ≡ false) same (bytes_less_itself (id_of z))
           | inr later ↦ bytes_less-asym (id_of z) (id_of y) (later_greater id_of [] z xs y rise later)
         ])
     | inr f ↦ elim (Contains-cases z xs y c) [
@@ -317,7 +319,7 @@ module _ (stored : List ElementValue) (time nonce : ℕ) (pairs : List Pair) (ar
   }
 
 -- ---- entries the other way round
-ids-exchanged : (pairs : List Pair) → ((pair : Pair) → Contains pairs pair → pair.before.id ≡ pair.after.id)
+pub ids-exchanged : (pairs : List Pair) → ((pair : Pair) → Contains pairs pair → pair.before.id ≡ pair.after.id)
     → pair_ids (map exchanged pairs) ≡ pair_ids pairs
 ids-exchanged [] same = refl
 ids-exchanged (pair ∷ pairs) same =

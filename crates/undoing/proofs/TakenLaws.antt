@@ -19,7 +19,7 @@ use Rattle.undoing.proofs.DifferingLaws.{same_kind-true}
 use Rattle.undoing.proofs.UndoneLaws.{undone-element}
 
 -- ---- an element that takes its place
-put-rising : (e : ElementValue) (elements : List ElementValue) → are_rising (ids_of elements) ≡ true
+pub put-rising : (e : ElementValue) (elements : List ElementValue) → are_rising (ids_of elements) ≡ true
     → are_rising (ids_of (with_put e elements)) ≡ true
 put-rising e elements h = rising-put (λ (x : ElementValue). x.id) e elements h
 
@@ -28,11 +28,6 @@ pub put-each : (e : ElementValue) (elements : List ElementValue) → are_rising 
     × ((id : List ℕ) → element_of (with_put e elements) id
     ≡ (if has_id id e then Some e else element_of elements id))
 put-each e elements h = (put-rising e elements h, λ id. item-put (λ (x : ElementValue). x.id) e elements id h)
-
-pub rising-same : (elements others : List ElementValue) → are_rising (ids_of elements) ≡ true
-    → are_rising (ids_of others) ≡ true → ((id : List ℕ) → element_of elements id ≡ element_of others id)
-    → elements ≡ others
-rising-same = same_elements
 
 -- an element as its type keeps it
 abbrev pub Is : ElementValue → Type 0
@@ -68,7 +63,7 @@ pub taken-is : (stored : List ElementValue) (e : ElementValue) (new : List Eleme
     → are_rising (ids_of stored) ≡ true → HasTaken stored e new → new ≡ taken e stored
 taken-is stored e new rise has =
     let own = taken-has stored e rise in
-    rising-same new (taken e stored) has.ordered own.ordered (λ id. has.each id ∙ sym (own.each id))
+    same_elements new (taken e stored) has.ordered own.ordered (λ id. has.each id ∙ sym (own.each id))
 
 pub taken-elements : (stored : List ElementValue) (e : ElementValue) → AreElements stored → IsElement e
     × HasValidTexts e → AreElements (taken e stored)

@@ -18,18 +18,18 @@ use Rattle.elem.specs.Facts.{IsElement, IsBinding, is_header, names}
 use Rattle.elem.specs.Order.{unstamped}
 use Rattle.elem.specs.Said.{HasValidTexts, IsBindingText}
 use Rattle.elem.specs.Texts.{truth_text, text_or_null, binding_text}
-use Rattle.elem.proofs.CallerLemmas.{AllByRecursion-append, IsRising, AllByRecursion-map}
+use Rattle.elem.proofs.CallerLemmas.{AllByRecursion-append, IsRising, AllByRecursion-map, list_any-each, each-list_any, names-each}
 use Rattle.delta.specs.Applied.{IsApplied, KeepsStamp}
 use Rattle.delta.specs.Delta.{Delta}
 use Rattle.delta.specs.Headers.{own_header, header_named, value_named, scalar_at, scalar_of}
-use Rattle.elem.specs.Listings.{same_listing_entry}
+use Rattle.elem.specs.Listings.{same_listing_entry, same_listing_entry-exact, same_listing_entry-same}
 use Rattle.json_text.specs.FirstOccurrences.{first_occurrences}
 use Rattle.delta.specs.Joined.{are_same, joined, stays, is_gained}
 use Rattle.delta.specs.Pairs.{Pair}
 use Rattle.delta.specs.Parts.{PartStandsFor, scalars_same, inverse}
 use Rattle.delta.specs.Rest.{made, with_value}
 use Rattle.delta.specs.Undone.{undone_scalar, undone_list, Undoes, IsUndone}
-use Rattle.delta.proofs.CallerLemmas.{names-inverted, inverse-twice, turned, change-inverted, scalar-turned, groups-turned, bound-turned, same-unstamped, undone-from, risen, rises, each-with_value, rising-with_value, named-with_value, list_any-each, each-list_any, not-named}
+use Rattle.delta.proofs.CallerLemmas.{names-inverted, inverse-twice, turned, change-inverted, scalar-turned, groups-turned, bound-turned, same-unstamped, undone-from, risen, rises, each-with_value, rising-with_value, named-with_value, not-named, undone_list-now, undone_scalar-now}
 use Rattle.undoing.specs.Differing.{same_kind}
 use Rattle.undoing.specs.Entries.{IsOfElements}
 use Rattle.undoing.specs.Undoing.{undone_header, undone_member, undone_members, undone_in, undone}
@@ -270,16 +270,72 @@ undone-other : (pair : Pair) (now : ElementValue) → same_kind pair.after.kind 
 unfolding undone
 undone-other pair now f = cond-false (same_kind pair.after.kind now.kind) (undone_in pair now) now f
 
-names-each : (P : List ℕ → Type 0) (ms : List Member) → AllByRecursion (λ (m : Member). P m.name) ms
-    → AllByRecursion P (names ms)
-names-each P [] h = tt
-names-each P (m ∷ ms) h = (h.0, names-each P ms h.1)
-
 -- elements are the same that are so but for their stamps, which are the same
 pub restamped : (a b : ElementValue) → unstamped a ≡ unstamped b → a.version ≡ b.version → a.nonce ≡ b.nonce
     → a.updated ≡ b.updated → a ≡ b
 restamped a b same version nonce updated =
     λ i. let e : ElementValue = same i in record e { version = version i; nonce = nonce i; updated = updated i }
+
+-- ---- of elements alone
+module _ (pair : Pair) (now : ElementValue) (before : IsElement pair.before) (after : IsElement pair.after)
+    (isnow : IsElement now) where
+  -- the undone element is an element
+  in-element : pair.before.kind ≡ now.kind → IsElement (undone_in pair now)
+  in-element e = record {
+    named = isnow.named;
+    version = isnow.version;
+    nonce = isnow.nonce;
+    updated = isnow.updated;
+    kind = isnow.kind;
+    container = cond_both (bytes_eq (text_or_null pair.before.container) (text_or_null pair.after.container))
+        now.container pair.before.container (λ o. IfSome o (λ id. now.kind ≡ Text))
+        (λ t. isnow.container) (λ f. subst (λ k. IfSome pair.before.container (λ id. k ≡ Text)) e before.container);
+    start_binding =
+        cond_both (bytes_eq (binding_text pair.before.start_binding) (binding_text pair.after.start_binding))
+        now.start_binding pair.before.start_binding (λ o. IfSome o (λ binding. (now.kind ≡ Arrow) × IsBinding binding))
+        (λ t. isnow.start_binding) (λ f. subst (λ k. IfSome pair.before.start_binding (λ binding. (k ≡ Arrow)
+        × IsBinding binding)) e before.start_binding);
+    end_binding = cond_both (bytes_eq (binding_text pair.before.end_binding) (binding_text pair.after.end_binding))
+        now.end_binding pair.before.end_binding (λ o. IfSome o (λ binding. (now.kind ≡ Arrow) × IsBinding binding))
+        (λ t. isnow.end_binding) (λ f. subst (λ k. IfSome pair.before.end_binding (λ binding. (k ≡ Arrow)
+        × IsBinding binding)) e before.end_binding);
+    file = cond_both (bytes_eq (text_or_null pair.before.file) (text_or_null pair.after.file)) now.file pair.before.file
+        (λ o. IfSome o (λ id. now.kind ≡ Image))
+        (λ t. isnow.file) (λ f. subst (λ k. IfSome pair.before.file (λ id. k ≡ Image)) e before.file);
+    rise = rises (undone_in pair now).rest (members-rising pair (names pair.before.rest ++ names pair.after.rest)
+        now.rest (risen now.rest isnow.rise));
+    free =
+        let test = is_header now.kind in
+        list_any-each test (undone_in pair now).rest
+        (members-each pair (λ m. test m.name ≡ false)
+        (each-list_any test pair.before.rest (subst (λ k. list_any (is_header k) (names pair.before.rest) ≡ false) e
+        before.free))
+        (names pair.before.rest ++ names pair.after.rest) now.rest (each-list_any test now.rest isnow.free));
+    nest = members-each pair (λ m. IsCompact 119 m.value) before.nest (names pair.before.rest ++ names pair.after.rest)
+        now.rest isnow.nest;
+  }
+
+  -- what undoes is the undone element
+  pub undone-only : pair.before.kind ≡ pair.after.kind → (result : ElementValue) → IsElement result
+      → IsUndone pair.before pair.after now result → result ≡ undone pair now
+  undone-only kind result isresult does = elim (cases_Bool (same_kind pair.after.kind now.kind)) [
+    | inl t ↦
+        let own = same_kind-true pair.after.kind now.kind after.kind isnow.kind t in
+        let one = does.undone own in
+        let other = undone_in-undoes pair now isnow.rise (kind ∙ own) own in
+        restamped result (undone_in pair now)
+        (same-unstamped result (undone_in pair now) isresult (in-element (kind ∙ own)) (one.stamp.kind
+        ∙ sym other.stamp.kind) (λ n. one.scalars n ∙ sym (other.scalars n))
+        (one.stamp.id ∙ sym other.stamp.id) (one.groups ∙ sym other.groups) (one.bound ∙ sym other.bound))
+        (one.stamp.version ∙ sym other.stamp.version) (one.stamp.nonce ∙ sym other.stamp.nonce) (one.stamp.updated
+        ∙ sym other.stamp.updated)
+        ∙ sym (undone-here pair now t)
+    | inr f ↦
+        let apart : pair.after.kind ≡ now.kind
+        → ⊥ = λ e. both_ways (same_kind pair.after.kind now.kind) f (ap (same_kind pair.after.kind) (sym e)
+        ∙ same_kind-same pair.after.kind) in
+        does.other apart ∙ sym (undone-other pair now f)
+  ]
 
 -- ---- of elements of one kind
 module _ (pair : Pair) (now : ElementValue) (of : IsOfElements pair) (kind : pair.before.kind ≡ pair.after.kind)
@@ -296,41 +352,6 @@ module _ (pair : Pair) (now : ElementValue) (of : IsOfElements pair) (kind : pai
         (undone_in-undoes pair now isnow.rise (kind ∙ e) e);
     other =
         λ apart. undone-other pair now (false_from_ne_true (same_kind pair.after.kind now.kind) (λ t. apart (kinds t)));
-  }
-
-  in-element : pair.before.kind ≡ now.kind → IsElement (undone_in pair now)
-  in-element e = record {
-    named = isnow.named;
-    version = isnow.version;
-    nonce = isnow.nonce;
-    updated = isnow.updated;
-    kind = isnow.kind;
-    container = cond_both (bytes_eq (text_or_null pair.before.container) (text_or_null pair.after.container))
-        now.container pair.before.container (λ o. IfSome o (λ id. now.kind ≡ Text))
-        (λ t. isnow.container) (λ f. subst (λ k. IfSome pair.before.container (λ id. k ≡ Text)) e of.0.0.container);
-    start_binding =
-        cond_both (bytes_eq (binding_text pair.before.start_binding) (binding_text pair.after.start_binding))
-        now.start_binding pair.before.start_binding (λ o. IfSome o (λ binding. (now.kind ≡ Arrow) × IsBinding binding))
-        (λ t. isnow.start_binding) (λ f. subst (λ k. IfSome pair.before.start_binding (λ binding. (k ≡ Arrow)
-        × IsBinding binding)) e of.0.0.start_binding);
-    end_binding = cond_both (bytes_eq (binding_text pair.before.end_binding) (binding_text pair.after.end_binding))
-        now.end_binding pair.before.end_binding (λ o. IfSome o (λ binding. (now.kind ≡ Arrow) × IsBinding binding))
-        (λ t. isnow.end_binding) (λ f. subst (λ k. IfSome pair.before.end_binding (λ binding. (k ≡ Arrow)
-        × IsBinding binding)) e of.0.0.end_binding);
-    file = cond_both (bytes_eq (text_or_null pair.before.file) (text_or_null pair.after.file)) now.file pair.before.file
-        (λ o. IfSome o (λ id. now.kind ≡ Image))
-        (λ t. isnow.file) (λ f. subst (λ k. IfSome pair.before.file (λ id. k ≡ Image)) e of.0.0.file);
-    rise = rises (undone_in pair now).rest (members-rising pair (names pair.before.rest ++ names pair.after.rest)
-        now.rest (risen now.rest isnow.rise));
-    free =
-        let test = is_header now.kind in
-        list_any-each test (undone_in pair now).rest
-        (members-each pair (λ m. test m.name ≡ false)
-        (each-list_any test pair.before.rest (subst (λ k. list_any (is_header k) (names pair.before.rest) ≡ false) e
-        of.0.0.free))
-        (names pair.before.rest ++ names pair.after.rest) now.rest (each-list_any test now.rest isnow.free));
-    nest = members-each pair (λ m. IsCompact 119 m.value) of.0.0.nest (names pair.before.rest ++ names pair.after.rest)
-        now.rest isnow.nest;
   }
 
   in-written : HasValidTexts (undone_in pair now)
@@ -366,37 +387,18 @@ module _ (pair : Pair) (now : ElementValue) (of : IsOfElements pair) (kind : pai
   pub undone-element : IsElement (undone pair now) × HasValidTexts (undone pair now)
   undone-element = elim (cases_Bool (same_kind pair.after.kind now.kind)) [
     | inl t ↦ subst (λ e. IsElement e × HasValidTexts e) (sym (undone-here pair now t)) (
-      in-element (kind ∙ kinds t),
+      in-element pair now of.0.0 of.1.0 isnow (kind ∙ kinds t),
       in-written,
     )
     | inr f ↦ subst (λ e. IsElement e × HasValidTexts e) (sym (undone-other pair now f)) (isnow, wnow)
-  ]
-
-  -- and the only one that undoes
-  pub undone-only : (result : ElementValue) → IsElement result → IsUndone pair.before pair.after now result
-      → result ≡ undone pair now
-  undone-only result isresult does = elim (cases_Bool (same_kind pair.after.kind now.kind)) [
-    | inl t ↦
-        let one = does.undone (kinds t) in
-        let other = undone-undoes.undone (kinds t) in
-        restamped result (undone pair now)
-        (same-unstamped result (undone pair now) isresult undone-element.0 (one.stamp.kind
-        ∙ sym other.stamp.kind) (λ n. one.scalars n ∙ sym (other.scalars n))
-        (one.stamp.id ∙ sym other.stamp.id) (one.groups ∙ sym other.groups) (one.bound ∙ sym other.bound))
-        (one.stamp.version ∙ sym other.stamp.version) (one.stamp.nonce ∙ sym other.stamp.nonce) (one.stamp.updated
-        ∙ sym other.stamp.updated)
-    | inr f ↦
-        let apart : pair.after.kind ≡ now.kind
-        → ⊥ = λ e. both_ways (same_kind pair.after.kind now.kind) f (ap (same_kind pair.after.kind) (sym e)
-        ∙ same_kind-same pair.after.kind) in
-        does.other apart ∙ sym (undone-other pair now f)
   ]
 
   -- it is what the inverse of the pair's part makes
   pub inverse-makes : (part : Delta) (result : ElementValue) → PartStandsFor part pair.before pair.after
       → IsElement result → IsApplied (inverse part) now result → result ≡ undone pair now
   inverse-makes part result stands isresult applied =
-      undone-only result isresult (undone-from part pair.before pair.after of.0.0 of.1.0 stands now result isnow
+      undone-only pair now of.0.0 of.1.0 isnow kind result isresult
+      (undone-from part pair.before pair.after of.0.0 of.1.0 stands now result isnow
       isresult applied)
 
   pub reverts-undone : (part : Delta) (result : ElementValue) → PartStandsFor part pair.before pair.after
@@ -425,15 +427,44 @@ renamed-applied : (part : Delta) (id : List ℕ) (captured result : ElementValue
     → IsApplied (record part { id = id }) captured result
 renamed-applied part id captured result applied = record { changed = applied.changed; other = applied.other }
 
-module _ (old new captured : ElementValue) (is : IsElement old) (w : HasValidTexts old) (is' : IsElement new)
-    (w' : HasValidTexts new)
-    (kind : old.kind ≡ new.kind) (iscaptured : IsElement captured) (wcaptured : HasValidTexts captured) where
-  pub follows-undone : (part : Delta) (result : ElementValue) → PartStandsFor part old new → IsElement result
-      → IsApplied part captured result → result ≡ undone (record { before = new; after = old }) captured
-  follows-undone part result stands isresult applied =
-      let back : Delta = record (inverse part) { id = old.id } in
-      let twice = subst (λ p. IsApplied p captured result) (sym (inverse-twice part)) applied in
-      undone-only (record { before = new; after = old }) captured ((is', w'), (is, w)) (sym kind) iscaptured wcaptured
-      result isresult
-      (undone-from back new old is' is (inverse-stands part old new stands kind) captured result iscaptured isresult
-      (renamed-applied (inverse (inverse part)) old.id captured result twice))
+pub follows-undone : (old new captured result : ElementValue) (part : Delta) → IsElement old → IsElement new
+    → IsElement captured → IsElement result → old.kind ≡ new.kind → PartStandsFor part old new
+    → IsApplied part captured result → result ≡ undone (record { before = new; after = old }) captured
+follows-undone old new captured result part isold isnew iscaptured isresult kind stands applied =
+    let back : Delta = record (inverse part) { id = old.id } in
+    let twice = subst (λ p. IsApplied p captured result) (sym (inverse-twice part)) applied in
+    undone-only (record { before = new; after = old }) captured isnew isold iscaptured (sym kind) result isresult
+    (undone-from back new old isnew isold (inverse-stands part old new stands kind) captured result iscaptured isresult
+    (renamed-applied (inverse (inverse part)) old.id captured result twice))
+
+-- ---- what is as after a change, but for its stamp, is undone to what is as before it, but for its stamp
+-- the stamp plays no part in it
+undone-unstamped : (pair : Pair) (now : ElementValue) → unstamped (undone pair now)
+    ≡ unstamped (undone pair (unstamped now))
+unfolding undone
+undone-unstamped pair now =
+    elim (same_kind pair.after.kind now.kind) as (λ b. unstamped (cond b (undone_in pair now) now)
+    ≡ unstamped (cond b (undone_in pair (unstamped now)) (unstamped now))) [
+      | true ↦ refl
+      | false ↦ refl
+    ]
+
+module _ (pair : Pair) (of : IsOfElements pair) (id : pair.before.id ≡ pair.after.id)
+    (kind : pair.before.kind ≡ pair.after.kind) where
+  after-back : unstamped (undone pair pair.after) ≡ unstamped pair.before
+  after-back =
+      let undoes = (undone-undoes pair pair.after of kind of.1.0 of.1.1).undone refl in
+      let made = undone-element pair pair.after of kind of.1.0 of.1.1 in
+      same-unstamped (undone pair pair.after) pair.before made.0 of.0.0 (undoes.stamp.kind ∙ sym kind)
+      (λ n. undoes.scalars n ∙ undone_scalar-now (scalar_of pair.before n) (scalar_of pair.after n))
+      (undoes.stamp.id ∙ sym id)
+      (undoes.groups ∙ undone_list-now bytes_eq bytes_eq-true bytes_eq-same pair.before.groups pair.after.groups)
+      (undoes.bound ∙ undone_list-now same_listing_entry same_listing_entry-exact same_listing_entry-same
+      pair.before.bound
+      pair.after.bound)
+
+  pub undone-back : (now : ElementValue) → unstamped now ≡ unstamped pair.after
+      → unstamped (undone pair now) ≡ unstamped pair.before
+  undone-back now same =
+      undone-unstamped pair now ∙ ap (λ e. unstamped (undone pair e)) same ∙ sym (undone-unstamped pair pair.after)
+      ∙ after-back

@@ -11,7 +11,7 @@ use Rattle.json_text.specs.Compact.{Member as Pair, array_text, object_text}
 use Rattle.json_text.specs.Parts.{AreMembers}
 use Rattle.json_text.specs.Value.{IsCompact}
 use Rattle.scene_json.specs.Named.{HaveRisingNames}
-use Rattle.json_text.proofs.CallerLemmas.{bytes_eq-same, Value-deeper, object-compact}
+use Rattle.json_text.proofs.CallerLemmas.{bytes_eq-same, Value-deeper, object-compact, ascii-utf8}
 use Rattle.scene_json.proofs.CallerLemmas.{rising_from, rising_none}
 use Rattle.restore_table.specs.Merged.{merged}
 use Rattle.restore_table.specs.Restored.{AreRestored}
@@ -24,7 +24,7 @@ use Rattle.elem.specs.Said.{IsOwn, Says, is_named}
 use Rattle.elem.specs.Texts.{kind_name}
 use Rattle.elem.specs.declared.kind.Kind.{Kind}
 use Rattle.elem.specs.declared.kind.Kind.TheVariants as kinds
-use Rattle.elem.proofs.CallerLemmas.{text-once, literal, AreMembers-deeper}
+use Rattle.elem.proofs.CallerLemmas.{text-once, AreMembers-deeper}
 use Rattle.elem_read.specs.Reading.{IsElementIn}
 use Rattle.elem_read.proofs.CallerLemmas.{kept, kept-others}
 use Rattle.workload.specs.Elements.{numbered_element, member_of, plain_rest}
@@ -50,7 +50,7 @@ record IsPlain (kind : Kind) : Type 0 where
 
 plain-rectangle : IsPlain kinds.Rectangle
 plain-rectangle = record {
-  named = literal (codes "rectangle") refl;
+  named = ascii-utf8 (codes "rectangle") refl;
   known = tt;
   apart = refl;
   container = refl;
@@ -61,7 +61,7 @@ plain-rectangle = record {
 
 plain-ellipse : IsPlain kinds.Ellipse
 plain-ellipse = record {
-  named = literal (codes "ellipse") refl;
+  named = ascii-utf8 (codes "ellipse") refl;
   known = tt;
   apart = refl;
   container = refl;
@@ -72,7 +72,7 @@ plain-ellipse = record {
 
 plain-arrow : IsPlain kinds.Arrow
 plain-arrow = record {
-  named = literal (codes "arrow") refl;
+  named = ascii-utf8 (codes "arrow") refl;
   known = tt;
   apart = refl;
   container = refl;
@@ -83,7 +83,7 @@ plain-arrow = record {
 
 plain-text : IsPlain kinds.Text
 plain-text = record {
-  named = literal (codes "text") refl;
+  named = ascii-utf8 (codes "text") refl;
   known = tt;
   apart = refl;
   container = inl refl;
@@ -94,7 +94,7 @@ plain-text = record {
 
 plain-frame : IsPlain kinds.Frame
 plain-frame = record {
-  named = literal (codes "frame") refl;
+  named = ascii-utf8 (codes "frame") refl;
   known = tt;
   apart = refl;
   container = refl;
@@ -121,7 +121,7 @@ plain-of number =
 -- ---- the members
 are-members : (kind : Kind) (number : ℕ) → number < 2 ^ 64 → IsPlain kind → AreMembers 0 (members_as kind number)
 are-members kind number small plain = record {
-  named = (literal (codes "id") refl, (literal (codes "type") refl, tt));
+  named = (ascii-utf8 (codes "id") refl, (ascii-utf8 (codes "type") refl, tt));
   valued = (id-compact number small, (word-compact (kind_name kind) plain.named, tt));
   distinct = IsDistinct-from_count nat_list_eq_equiv _ refl;
 }
@@ -198,7 +198,7 @@ element-as kind number small plain =
             let same = text-once (Some (quote (kind_name kind))) (kind_name kind) (codes "selection") (
               plain.named,
               refl,
-            ) (literal (codes "selection") refl, selection) in
+            ) (ascii-utf8 (codes "selection") refl, selection) in
             bytes_eq-differ (kind_name kind) (codes "selection") plain.apart same;
       };
       shallow = Value-deeper (lit≤ tt) (object-compact 0 members are);

@@ -9,9 +9,9 @@ use Rattle.json_text.specs.Compact.{Member as Pair, object_text}
 use Rattle.json_text.specs.Parts.{AreMembers}
 use Rattle.json_text.specs.Tree.{null_word}
 use Rattle.json_text.specs.Value.{IsCompact}
-use Rattle.json_text.proofs.CallerLemmas.{Value-deeper, array-compact, decimal_nests, literal-compact, object-compact}
+use Rattle.json_text.proofs.CallerLemmas.{Value-deeper, array-compact, decimal_nests, literal-compact, object-compact, ascii-utf8}
 use Rattle.elem.specs.Facts.{greatest_whole}
-use Rattle.elem.proofs.CallerLemmas.{literal, AreMembers-deeper}
+use Rattle.elem.proofs.CallerLemmas.{AreMembers-deeper}
 use Rattle.board_commands.specs.declared.command.Capture.{Capture}
 use Rattle.board_commands.specs.declared.command.Capture.TheVariants as captures
 use Rattle.session_text.specs.Events.{EventOf, EventText, HeaderText, header}
@@ -48,9 +48,9 @@ word-value : (limit : ℕ) (word : List ℕ) → IsUtf8 word → IsCompact limit
 word-value limit word is = Value-deeper (omega arith) (word-compact word is)
 
 capture-value : (limit : ℕ) (capture : Capture) → IsCompact limit (capture_text capture)
-capture-value limit captures.Now = word-value limit (codes "now") (literal (codes "now") refl)
-capture-value limit captures.Later = word-value limit (codes "later") (literal (codes "later") refl)
-capture-value limit captures.Never = word-value limit (codes "never") (literal (codes "never") refl)
+capture-value limit captures.Now = word-value limit (codes "now") (ascii-utf8 (codes "now") refl)
+capture-value limit captures.Later = word-value limit (codes "later") (ascii-utf8 (codes "later") refl)
+capture-value limit captures.Never = word-value limit (codes "never") (ascii-utf8 (codes "never") refl)
 
 at-is : (limit number : ℕ) → number < limit → limit ≤ greatest_whole → IsFrom 0 limit (Some (decimal number)) number
 at-is limit number below most = ((omega arith, refl), omega arith, below)
@@ -60,14 +60,14 @@ change-are : (at time : ℕ) (capture : Capture) (order : Order) → at < 4 → 
     → AreMembers 2 (change_members at time capture order)
 change-are at time capture order place soon small = record {
   named = (
-    literal (codes "do") refl,
+    ascii-utf8 (codes "do") refl,
     (
-      literal (codes "at") refl,
-      (literal (codes "time") refl, (literal (codes "capture") refl, (literal (codes "command") refl, tt))),
+      ascii-utf8 (codes "at") refl,
+      (ascii-utf8 (codes "time") refl, (ascii-utf8 (codes "capture") refl, (ascii-utf8 (codes "command") refl, tt))),
     ),
   );
   valued = (
-    word-value 2 (codes "change") (literal (codes "change") refl),
+    word-value 2 (codes "change") (ascii-utf8 (codes "change") refl),
     (
       number-value 2 at (omega arith),
       (
@@ -93,7 +93,7 @@ change-line made at time capture order place soon small =
 step-are : (word : List ℕ) (at time : ℕ) → IsUtf8 word → at < 4 → time ≤ greatest_whole
     → AreMembers 0 (step_members word at time)
 step-are word at time is place soon = record {
-  named = (literal (codes "do") refl, (literal (codes "at") refl, (literal (codes "time") refl, tt)));
+  named = (ascii-utf8 (codes "do") refl, (ascii-utf8 (codes "at") refl, (ascii-utf8 (codes "time") refl, tt)));
   valued = (word-value 0 word is, (number-value 0 at (omega arith), (number-value 0 time soon, tt)));
   distinct = IsDistinct-from_count nat_list_eq_equiv _ refl;
 }
@@ -102,7 +102,7 @@ undo-line : (made at time : ℕ) → at < 4 → time ≤ greatest_whole
     → IsLine made (deed_text (Undo at time)) (event_of (Undo at time))
 undo-line made at time place soon =
     line-of made 0 (step_members (codes "undo") at time) (event_of (Undo at time)) (lit≤ tt)
-    (step-are (codes "undo") at time (literal (codes "undo") refl) place soon)
+    (step-are (codes "undo") at time (ascii-utf8 (codes "undo") refl) place soon)
     (undo-said 4 made (step_members (codes "undo") at time) at time refl
     (goes_on at (at-is 4 at place (lit≤ tt)) (goes_on time (soon, refl) refl)))
 
@@ -110,7 +110,7 @@ redo-line : (made at time : ℕ) → at < 4 → time ≤ greatest_whole
     → IsLine made (deed_text (Redo at time)) (event_of (Redo at time))
 redo-line made at time place soon =
     line-of made 0 (step_members (codes "redo") at time) (event_of (Redo at time)) (lit≤ tt)
-    (step-are (codes "redo") at time (literal (codes "redo") refl) place soon)
+    (step-are (codes "redo") at time (ascii-utf8 (codes "redo") refl) place soon)
     (redo-said 4 made (step_members (codes "redo") at time) at time refl
     (goes_on at (at-is 4 at place (lit≤ tt)) (goes_on time (soon, refl) refl)))
 
@@ -130,9 +130,9 @@ are-picks made (message ∷ messages) most (first, others) =
 delivery-are : (made to : ℕ) (messages : List ℕ) → to < 4 → made ≤ greatest_whole
     → AllByRecursion (λ message. message < made) messages → AreMembers 1 (delivery_members to messages)
 delivery-are made to messages place most below = record {
-  named = (literal (codes "do") refl, (literal (codes "to") refl, (literal (codes "picks") refl, tt)));
+  named = (ascii-utf8 (codes "do") refl, (ascii-utf8 (codes "to") refl, (ascii-utf8 (codes "picks") refl, tt)));
   valued = (
-    word-value 1 (codes "deliver") (literal (codes "deliver") refl),
+    word-value 1 (codes "deliver") (ascii-utf8 (codes "deliver") refl),
     (
       number-value 1 to (omega arith),
       (array-compact 0 (map decimal messages) (numbers-compact 0 made messages most below), tt),
@@ -172,8 +172,8 @@ deed-line made (Deliver to first last) most (place, one, two) =
 header-are : (seed : ℕ) → seed ≤ greatest_whole → AreMembers 0 (session_header_members seed)
 header-are seed small = record {
   named = (
-    literal (codes "session") refl,
-    (literal (codes "replicas") refl, (literal (codes "seed") refl, (literal (codes "scene") refl, tt))),
+    ascii-utf8 (codes "session") refl,
+    (ascii-utf8 (codes "replicas") refl, (ascii-utf8 (codes "seed") refl, (ascii-utf8 (codes "scene") refl, tt))),
   );
   valued = (
     digit-compact 1 (lit< tt),

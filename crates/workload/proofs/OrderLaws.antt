@@ -6,10 +6,10 @@ use Rattle.json_text.specs.Characters.{quote}
 use Rattle.json_text.specs.Compact.{Member as Pair, array_text, object_text}
 use Rattle.json_text.specs.Parts.{AreMembers}
 use Rattle.json_text.specs.Value.{IsCompact}
-use Rattle.json_text.proofs.CallerLemmas.{Value-deeper, array-compact, decimal_nests, object-compact}
+use Rattle.json_text.proofs.CallerLemmas.{Value-deeper, array-compact, decimal_nests, object-compact, ascii-utf8}
 use Rattle.json_text.specs.FirstOccurrences.{first_texts}
 use Rattle.elem.specs.Forms.{IsText}
-use Rattle.elem.proofs.CallerLemmas.{literal, AreMembers-deeper}
+use Rattle.elem.proofs.CallerLemmas.{AreMembers-deeper}
 use Rattle.board_commands.specs.declared.command.Side.{Side}
 use Rattle.board_commands.specs.declared.command.Side.TheVariants as sides
 use Rattle.board_commands.specs.declared.command.Spot.TheVariants as spots
@@ -70,8 +70,8 @@ word-value : (word : List ℕ) → IsUtf8 word → IsCompact 1 (quote word)
 word-value word is = Value-deeper (lit≤ tt) (word-compact word is)
 
 side-value : (side : Side) → IsCompact 1 (side_text side)
-side-value sides.Start = word-value (codes "start") (literal (codes "start") refl)
-side-value sides.End = word-value (codes "end") (literal (codes "end") refl)
+side-value sides.Start = word-value (codes "start") (ascii-utf8 (codes "start") refl)
+side-value sides.End = word-value (codes "end") (ascii-utf8 (codes "end") refl)
 
 one-value : (element : ℕ) → element < 200 → IsCompact 1 (array_text (id_text element ∷ []))
 one-value element small = array-compact 0 (id_text element ∷ []) (id-compact element (fits element small), tt)
@@ -87,7 +87,7 @@ two-values element other one two =
 -- ---- the member `after` of a spot
 after-are : (other : ℕ) → other < 200 → AreMembers 0 ((codes "after", id_text other) ∷ [])
 after-are other small = record {
-  named = (literal (codes "after") refl, tt);
+  named = (ascii-utf8 (codes "after") refl, tt);
   valued = (id-compact other (fits other small), tt);
   distinct = IsDistinct-from_count nat_list_eq_equiv _ refl;
 }
@@ -121,87 +121,99 @@ no-rest = (
 -- ---- the commands
 order-are : (order : Order) → IsSmall order → AreMembers 1 (order_members order)
 order-are (Create element) small = record {
-  named = (literal (codes "name") refl, (literal (codes "element") refl, (literal (codes "spot") refl, tt)));
+  named = (ascii-utf8 (codes "name") refl, (ascii-utf8 (codes "element") refl, (ascii-utf8 (codes "spot") refl, tt)));
   valued = (
-    word-value (codes "create") (literal (codes "create") refl),
-    (element-compact element (fits element small), (word-value (codes "top") (literal (codes "top") refl), tt)),
+    word-value (codes "create") (ascii-utf8 (codes "create") refl),
+    (element-compact element (fits element small), (word-value (codes "top") (ascii-utf8 (codes "top") refl), tt)),
   );
   distinct = IsDistinct-from_count nat_list_eq_equiv _ refl;
 }
 order-are (SetX element value) small = record {
   named = (
-    literal (codes "name") refl,
-    (literal (codes "id") refl, (literal (codes "member") refl, (literal (codes "value") refl, tt))),
+    ascii-utf8 (codes "name") refl,
+    (ascii-utf8 (codes "id") refl, (ascii-utf8 (codes "member") refl, (ascii-utf8 (codes "value") refl, tt))),
   );
   valued = (
-    word-value (codes "set") (literal (codes "set") refl),
-    (id-value element small.0, (word-value (codes "x") (literal (codes "x") refl), (number-value value small.1, tt))),
+    word-value (codes "set") (ascii-utf8 (codes "set") refl),
+    (
+      id-value element small.0,
+      (
+        word-value (codes "x") (ascii-utf8 (codes "x") refl),
+        (number-value value small.1, tt),
+      ),
+    ),
   );
   distinct = IsDistinct-from_count nat_list_eq_equiv _ refl;
 }
 order-are (SetY element value) small = record {
   named = (
-    literal (codes "name") refl,
-    (literal (codes "id") refl, (literal (codes "member") refl, (literal (codes "value") refl, tt))),
+    ascii-utf8 (codes "name") refl,
+    (ascii-utf8 (codes "id") refl, (ascii-utf8 (codes "member") refl, (ascii-utf8 (codes "value") refl, tt))),
   );
   valued = (
-    word-value (codes "set") (literal (codes "set") refl),
-    (id-value element small.0, (word-value (codes "y") (literal (codes "y") refl), (number-value value small.1, tt))),
+    word-value (codes "set") (ascii-utf8 (codes "set") refl),
+    (
+      id-value element small.0,
+      (
+        word-value (codes "y") (ascii-utf8 (codes "y") refl),
+        (number-value value small.1, tt),
+      ),
+    ),
   );
   distinct = IsDistinct-from_count nat_list_eq_equiv _ refl;
 }
 order-are (Place element other) small = record {
-  named = (literal (codes "name") refl, (literal (codes "id") refl, (literal (codes "spot") refl, tt)));
+  named = (ascii-utf8 (codes "name") refl, (ascii-utf8 (codes "id") refl, (ascii-utf8 (codes "spot") refl, tt)));
   valued = (
-    word-value (codes "place") (literal (codes "place") refl),
+    word-value (codes "place") (ascii-utf8 (codes "place") refl),
     (id-value element small.0, (object-compact 0 _ (after-are other small.1), tt)),
   );
   distinct = IsDistinct-from_count nat_list_eq_equiv _ refl;
 }
 order-are (Bind side element other) small = record {
   named = (
-    literal (codes "name") refl,
+    ascii-utf8 (codes "name") refl,
     (
-      literal (codes "arrow") refl,
+      ascii-utf8 (codes "arrow") refl,
       (
-        literal (codes "end") refl,
-        (literal (codes "target") refl, (literal (codes "binding") refl, tt)),
+        ascii-utf8 (codes "end") refl,
+        (ascii-utf8 (codes "target") refl, (ascii-utf8 (codes "binding") refl, tt)),
       ),
     ),
   );
   valued = (
-    word-value (codes "bind") (literal (codes "bind") refl),
+    word-value (codes "bind") (ascii-utf8 (codes "bind") refl),
     (id-value element small.0, (side-value side, (id-value other small.1, (object-compact 0 [] none-are, tt)))),
   );
   distinct = IsDistinct-from_count nat_list_eq_equiv _ refl;
 }
 order-are (Label element other) small = record {
-  named = (literal (codes "name") refl, (literal (codes "container") refl, (literal (codes "text") refl, tt)));
+  named = (ascii-utf8 (codes "name") refl, (ascii-utf8 (codes "container") refl, (ascii-utf8 (codes "text") refl, tt)));
   valued = (
-    word-value (codes "label") (literal (codes "label") refl),
+    word-value (codes "label") (ascii-utf8 (codes "label") refl),
     (id-value element small.0, (id-value other small.1, tt)),
   );
   distinct = IsDistinct-from_count nat_list_eq_equiv _ refl;
 }
 order-are (Frame element other) small = record {
-  named = (literal (codes "name") refl, (literal (codes "ids") refl, (literal (codes "frame") refl, tt)));
+  named = (ascii-utf8 (codes "name") refl, (ascii-utf8 (codes "ids") refl, (ascii-utf8 (codes "frame") refl, tt)));
   valued = (
-    word-value (codes "frame") (literal (codes "frame") refl),
+    word-value (codes "frame") (ascii-utf8 (codes "frame") refl),
     (one-value element small.0, (id-value other small.1, tt)),
   );
   distinct = IsDistinct-from_count nat_list_eq_equiv _ refl;
 }
 order-are (Group element other) small = record {
-  named = (literal (codes "name") refl, (literal (codes "ids") refl, (literal (codes "group") refl, tt)));
+  named = (ascii-utf8 (codes "name") refl, (ascii-utf8 (codes "ids") refl, (ascii-utf8 (codes "group") refl, tt)));
   valued = (
-    word-value (codes "group") (literal (codes "group") refl),
-    (two-values element other small.0 small.1, (word-value (codes "g") (literal (codes "g") refl), tt)),
+    word-value (codes "group") (ascii-utf8 (codes "group") refl),
+    (two-values element other small.0 small.1, (word-value (codes "g") (ascii-utf8 (codes "g") refl), tt)),
   );
   distinct = IsDistinct-from_count nat_list_eq_equiv _ refl;
 }
 order-are (Delete element) small = record {
-  named = (literal (codes "name") refl, (literal (codes "ids") refl, tt));
-  valued = (word-value (codes "delete") (literal (codes "delete") refl), (one-value element small, tt));
+  named = (ascii-utf8 (codes "name") refl, (ascii-utf8 (codes "ids") refl, tt));
+  valued = (word-value (codes "delete") (ascii-utf8 (codes "delete") refl), (one-value element small, tt));
   distinct = IsDistinct-from_count nat_list_eq_equiv _ refl;
 }
 
@@ -211,11 +223,11 @@ order-says (Create element) small =
     (goes_on (numbered_element_text element) refl (element-read element (fits element small))) refl
 order-says (SetX element value) small =
     set-said (order_members (SetX element value)) (numbered_id element) (codes "x") (decimal value) refl
-    (id-is element small.0) (literal (codes "x") refl, refl)
+    (id-is element small.0) (ascii-utf8 (codes "x") refl, refl)
     (refl, decimal_nests 100 value (fits value small.1))
 order-says (SetY element value) small =
     set-said (order_members (SetY element value)) (numbered_id element) (codes "y") (decimal value) refl
-    (id-is element small.0) (literal (codes "y") refl, refl)
+    (id-is element small.0) (ascii-utf8 (codes "y") refl, refl)
     (refl, decimal_nests 100 value (fits value small.1))
 order-says (Place element other) small =
     place-said (order_members (Place element other)) (numbered_id element) (spots.After (numbered_id other)) refl
@@ -232,7 +244,7 @@ order-says (Frame element other) small =
 order-says (Group element other) small =
     group-said (order_members (Group element other)) (first_texts (numbered_id element ∷ numbered_id other ∷ []))
     (codes "g") refl (two-ids element other small.0 small.1)
-    (literal (codes "g") refl, refl)
+    (ascii-utf8 (codes "g") refl, refl)
 order-says (Delete element) small =
     delete-said (order_members (Delete element)) (numbered_id element ∷ []) refl (one-id element small)
 

@@ -8,7 +8,7 @@ use Rattle.std.proofs.lemmas.List.FromFn.{get_or-range_with_len, length-range_wi
 use Rattle.std.proofs.lemmas.List.Sorted.{All-permutation, IsPermutation-reverse}
 use Rattle.json_text.specs.Characters.{is_blank}
 use Rattle.json_text.specs.Value.{Stands}
-use Rattle.delta.proofs.CallerLemmas.{Contains-to_map}
+use Rattle.json_text.proofs.CallerLemmas.{Contains-to_map}
 use Rattle.elem.specs.Facts.{greatest_whole}
 use Rattle.session_text.specs.Sessions.{EventsLead, IsSessionOf}
 use Rattle.session_text.specs.declared.event.Event.{Event}

@@ -4,7 +4,7 @@ use Rattle.json_text.specs.Value.{IsCompact}
 use Rattle.json_text.specs.declared.text.Member.{Member}
 use Rattle.file_table.specs.Table.{AreLeastEntries}
 use Rattle.file_table.proofs.CallerLemmas.{AreLeastEntries-none}
-use Rattle.board_paste.proofs.FileTable.{nests-at, table-more}
+use Rattle.scene_file.proofs.CallerLemmas.{nests-at, table-more}
 use Rattle.board_paste.proofs.pasting.files_of.Goals as goal
 
 pub loop-file-init : goal.loop-file-init
@@ -25,7 +25,7 @@ loop-file-preserved c =
     let i = c.loop-file.file-index in
     let here : m ≡ get_or c.args.files.now i m = cc in
     let within : i < length c.args.files.now = omega (arith, ap length c.as_slice-file-items.ensures) in
-    table-more c.args.files.now i m c.in_ok-copy.copy _ _ within here c.in_ok-copy.ensures c.loop-file.invariant
+    table-more [] c.args.files.now i m c.in_ok-copy.copy _ _ within here c.in_ok-copy.ensures c.loop-file.invariant
     c.in_ok-take.ensures.taken
 
 pub returns : goal.returns

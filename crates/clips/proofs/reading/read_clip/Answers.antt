@@ -7,11 +7,11 @@ use Rattle.json_text.specs.Members.{pairs}
 use Rattle.elem.specs.Order.{HaveDistinctIds}
 use Rattle.elem_read.specs.Reading.{IsWholeElement}
 use Rattle.elem_read.proofs.CallerLemmas.{is-object, stop-same}
+use Rattle.scene_file.proofs.CallerLemmas.{nests-value_unless_null}
 use Rattle.clips.specs.Clips.{IsClipFault}
 use Rattle.clips.specs.Placed.{elements_in, places_in}
 use Rattle.clips.specs.declared.fault.ClipFault.TheVariants.{NotClip, Elements, Files}
 use Rattle.clips.proofs.ClipTold.{is-clipboard, fault-same, elements-fault}
-use Rattle.clips.proofs.ClipFiles.{nests-given}
 use Rattle.clips.proofs.RepeatLaws.{repeat-none}
 use Rattle.clips.proofs.reading.read_clip.Goals as goal
 
@@ -122,5 +122,6 @@ returns-clause-files c =
     let members = pairs c.in-Some.found in
     let found : c.members.result ≡ Ok c.in-Some.found =
     c.shaped.ensures.found c.in-Some.found (c.in_ok-found.was ∙ ap Ok c.in-Some.is) in
-    (nests-given (codes "files") members (pairs c.in-Some-3.files) (IfOk-at_ok _ found c.members.ensures.kept)
+    (nests-value_unless_null (codes "files") members (pairs c.in-Some-3.files)
+    (IfOk-at_ok _ found c.members.ensures.kept)
     (MatchOption-at_some _ _ c.in-Some-3.files c.in-Some-3.is c.in_ok-files.ensures)).valued

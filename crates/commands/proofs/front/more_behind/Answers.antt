@@ -1,6 +1,6 @@
 use Rattle.std.proofs.Common.{inl, inr, drop, length-drop, arith}
 use Rattle.json_text.specs.Characters.{is_space}
-use Rattle.commands.proofs.Runs.{Runs-either}
+use Rattle.json_text.proofs.CallerLemmas.{Runs-either}
 use Rattle.commands.proofs.front.more_behind.Goals as goal
 
 pub returns-else-at-bytes : goal.returns-else-at-bytes

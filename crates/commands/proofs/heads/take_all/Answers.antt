@@ -3,7 +3,7 @@ use Rattle.json_text.specs.Members.{pairs}
 use Rattle.json_text.specs.Value.{IsCompact}
 use Rattle.json_text.specs.declared.text.Member.{Member}
 use Rattle.file_table.specs.Table.{AreLeastEntries}
-use Rattle.commands.proofs.Joining.{nests-at, table-more}
+use Rattle.scene_file.proofs.CallerLemmas.{nests-at, table-more}
 use Rattle.commands.proofs.heads.take_all.Goals as goal
 
 pub loop-member-init : goal.loop-member-init

@@ -1,16 +1,8 @@
-use Rattle.std.proofs.Common.{◌≡◌, ℕ, List, [], ◌∷◌, length, map, refl, ap, ap₂, ◌∙◌, option_copied}
-use Rattle.std.specs.List.{zip}
+use Rattle.std.proofs.Common.{◌≡◌, [], length, ap, ap₂, ◌∙◌, option_copied}
 use Rattle.frac_keys.specs.Between.{keys_between}
-use Rattle.elem.specs.ElementValue.{ElementValue}
 use Rattle.index_repair.specs.Keyed.{keyed, with_index}
+use Rattle.index_repair.proofs.CallerLemmas.{keyed-zip}
 use Rattle.copies.proofs.keying.keyed_between.Goals as goal
-
-keyed-zip : (es : List ElementValue) (keys : List (List ℕ))
-    → map (λ (p : ElementValue × List ℕ). with_index p.0 p.1) (zip es keys) ≡ keyed es keys
-keyed-zip [] [] = refl
-keyed-zip [] (key ∷ keys) = refl
-keyed-zip (e ∷ es) [] = refl
-keyed-zip (e ∷ es) (key ∷ keys) = ap (λ fs. with_index e key ∷ fs) (keyed-zip es keys)
 
 pub returns : goal.returns
 returns c =

@@ -1,13 +1,14 @@
 use Rattle.std.proofs.Common.{sym, ap, ◌∙◌, ◌||◌, bytes_eq}
+use Rattle.std.proofs.Math.Bool.{or_comm}
 use Rattle.effects.specs.Naming.{is_among}
-use Rattle.effects.proofs.ConcerningLaws.{has, added-left, added-all, all-left}
+use Rattle.effects.proofs.ConcerningLaws.{has, added-left, added-all}
 use Rattle.effects.proofs.ChosenLaws.{contains-among}
 use Rattle.effects.proofs.concerning.add_set.Goals as goal
 
 pub loop-id-init : goal.loop-id-init
 loop-id-init c = λ x.
     ap (λ ids. has c.args.ids.now x || is_among ids x) c.into_iter-id-iterator.ensures.into_iter_gives.0
-    ∙ all-left (has c.args.ids.now x) (is_among c.args.others.now.keys x)
+    ∙ or_comm (has c.args.ids.now x) (is_among c.args.others.now.keys x)
     ∙ ap (λ b. b || has c.args.ids.now x) (sym (contains-among c.args.others.now x))
 
 pub loop-id-preserved : goal.loop-id-preserved

@@ -7,11 +7,13 @@ use Rattle.json_text.specs.Compact.{Member as Pair}
 use Rattle.json_text.specs.Members.{pairs}
 use Rattle.json_text.proofs.CallerLemmas.{Value-deeper}
 use Rattle.json_text.specs.declared.text.Member.{Member}
+use Rattle.json_text.specs.Value.{IsCompact}
+use Rattle.scene_json.proofs.CallerLemmas.{pairs-each}
 use Rattle.elem.specs.Facts.{IsBinding}
 use Rattle.elem.specs.Printing.{IsBegun}
 use Rattle.elem.specs.Texts.{sorted_members}
 use Rattle.elem.proofs.Headers.{target_pair, merged-binding, binding-rises}
-use Rattle.elem.proofs.Merging.{Merged, begun-step, merging-from, merging-step, merging-closed, nest-pairs, length-merged, sound-compact}
+use Rattle.elem.proofs.Merging.{Merged, begun-step, merging-from, merging-step, merging-closed, length-merged, sound-compact}
 use Rattle.elem.proofs.raw.push_binding.Goals as goal
 use Rattle.elem.proofs.raw.push_binding.Goals.{In_ok-push}
 
@@ -29,7 +31,8 @@ all c =
     let done = c.push_quote.new.out.items in
     let at : c.len-start.result ≡ length out = search rules in
     let below = c.in_ok-rest.ensures in
-    let before = merging-from 118 out (target ∷ []) binding.rest (nest-pairs 118 binding.rest (sound c).nest) in
+    let before = merging-from 118 out (target ∷ []) binding.rest
+    (pairs-each (λ (m : Pair). IsCompact 118 m.1) binding.rest (sound c).nest) in
     let header : (first : List Pair) → IsBegun out first low → IsBegun out (first ++ target ∷ []) done =
     λ first is. begun-step out first (codes "elementId") (quote binding.target) c.len-start.result low
     c.begin_quoted.new.out.items done at is c.in_ok-begin_quoted.ensures.text c.in_ok-push_quote.ensures.ok in

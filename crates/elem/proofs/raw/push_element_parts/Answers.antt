@@ -4,6 +4,9 @@ use Rattle.std.specs.Str.{IsUtf8}
 use Rattle.std.proofs.lemmas.List.Elements.{recursion_from_All}
 use Rattle.json_text.specs.declared.text.Member.{Member}
 use Rattle.json_text.proofs.CallerLemmas.{extends_same, extends_by, extends_then, on_err}
+use Rattle.json_text.specs.Compact.{Member as Pair}
+use Rattle.json_text.specs.Value.{IsCompact}
+use Rattle.scene_json.proofs.CallerLemmas.{pairs-each}
 use Rattle.elem.specs.declared.header.Header.{Header}
 use Rattle.elem.specs.declared.header.Header.TheVariants.{BoundElements}
 use Rattle.elem.specs.ElementValue.{ElementValue}
@@ -11,7 +14,7 @@ use Rattle.elem.specs.Facts.{IsElement}
 use Rattle.elem.specs.Printing.{header_name, header_pair, headers_of}
 use Rattle.elem.specs.Texts.{element_members}
 use Rattle.elem.proofs.Headers.{header_pairs, merged-element, length-members, element-compact, element-rises}
-use Rattle.elem.proofs.Merging.{Merging, Merged, merging-from, merging-step, merging-closed, nest-pairs}
+use Rattle.elem.proofs.Merging.{Merging, Merged, merging-from, merging-step, merging-closed}
 use Rattle.elem.proofs.Sorting.{are_rising-from}
 use Rattle.elem.proofs.raw.push_element_parts.Goals as goal
 use Rattle.elem.proofs.raw.push_element_parts.Goals.{In_ok-push}
@@ -23,7 +26,8 @@ loop-header-init c =
     let is = subst IsElement c.e.view_is c.e.invariant in
     let headers = c.headers_of-header-items.ensures ∙ ap (λ e. headers_of e.kind) c.e.view_is in
     let rest = c.as_slice-rest.ensures ∙ ap (λ e. e.rest) c.e.view_is in
-    rw (headers, rest) (merging-from 119 out (header_pairs e e.kind) e.rest (nest-pairs 119 e.rest is.nest))
+    rw (headers, rest) (merging-from 119 out (header_pairs e e.kind) e.rest
+    (pairs-each (λ (m : Pair). IsCompact 119 m.1) e.rest is.nest))
 
 -- one more header member
 more : (e : ElementValue) (hs : List Header) (h : Header) (i : ℕ) → i < length hs

@@ -12,5 +12,5 @@ loop-member-preserved c = each-more (λ (member : Member). IsUtf8 member.name) c
 pub returns : goal.returns
 returns c =
     let all : length c.as_slice-member-items.result.now ≤ c.loop-member.member-index = omega arith in
-    names-each _ (subst (AllByRecursion (λ (member : Member). IsUtf8 member.name)) (take_all _ _ all
+    names-each IsUtf8 _ (subst (AllByRecursion (λ (member : Member). IsUtf8 member.name)) (take_all _ _ all
     ∙ c.as_slice-member-items.ensures) c.loop-member.invariant)

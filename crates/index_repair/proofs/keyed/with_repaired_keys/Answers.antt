@@ -1,19 +1,11 @@
-use Rattle.std.proofs.Common.{◌≡◌, ℕ, List, [], ◌∷◌, Option, true, length, map, refl, sym, ap, ◌∙◌, subst}
-use Rattle.std.specs.List.{zip, list_all}
+use Rattle.std.proofs.Common.{◌≡◌, ℕ, List, [], Option, true, length, sym, ap, ◌∙◌, subst}
+use Rattle.std.specs.List.{list_all}
 use Rattle.std.proofs.lemmas.List.{length-map}
 use Rattle.frac_keys.specs.Rising.{is_key_or_none}
 use Rattle.index_repair.specs.Repair.{repaired}
-use Rattle.elem.specs.ElementValue.{ElementValue}
 use Rattle.index_repair.specs.Keyed.{index_of, keyed, with_index}
-use Rattle.index_repair.proofs.KeyedLaws.{keyed-rising}
+use Rattle.index_repair.proofs.KeyedLaws.{keyed-rising, keyed-zip}
 use Rattle.index_repair.proofs.keyed.with_repaired_keys.Goals as goal
-
-keyed-zip : (es : List ElementValue) (keys : List (List ℕ))
-    → map (λ (p : ElementValue × List ℕ). with_index p.0 p.1) (zip es keys) ≡ keyed es keys
-keyed-zip [] [] = refl
-keyed-zip [] (key ∷ keys) = refl
-keyed-zip (e ∷ es) [] = refl
-keyed-zip (e ∷ es) (key ∷ keys) = ap (λ fs. with_index e key ∷ fs) (keyed-zip es keys)
 
 pub change_each-requires-clause-one_each : goal.change_each-requires-clause-one_each
 change_each-requires-clause-one_each c = ap length c.into_vec.ensures ∙ c.in_ok-keys.ensures.count

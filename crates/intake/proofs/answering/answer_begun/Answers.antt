@@ -1,7 +1,8 @@
 use Rattle.std.proofs.Common.{◌≡◌, ◌∙◌, subst}
+use Rattle.std.proofs.lemmas.Result.{on_ok_weaker, on_err_weaker}
 use Rattle.board_ends.specs.Ends.{Took}
 use Rattle.intake.specs.Answering.{output_line}
-use Rattle.intake.proofs.Answered.{TookPart, ok-then, err-then, lead-answer, lead-lost, one-answered, one-in-part}
+use Rattle.intake.proofs.Answered.{TookPart, lead-answer, lead-lost, one-answered, one-in-part}
 use Rattle.intake.proofs.answering.answer_begun.Goals as goal
 
 pub returns-then-line-clause-answered : goal.returns-then-line-clause-answered
@@ -9,7 +10,7 @@ returns-then-line-clause-answered g c =
     let answers = g.A.Answerer.answers in
     let lost = c.args.lost.now in
     let before = g.A.Answerer.stands c.args.answerer.now in
-    ok-then c.write_line.result
+    on_ok_weaker c.write_line.result
     (λ taken bytes begun. one-answered answers lost before before (g.K.Sink.seen c.args.sink.now)
     (g.K.Sink.seen c.write_line.new.sink) bytes lost
     (lead-lost answers lost before before bytes (λ state stands. stands)) taken)
@@ -20,7 +21,7 @@ returns-then-line-clause-part g c =
     let answers = g.A.Answerer.answers in
     let lost = c.args.lost.now in
     let before = g.A.Answerer.stands c.args.answerer.now in
-    err-then c.write_line.result
+    on_err_weaker c.write_line.result
     (λ part bytes begun. one-in-part answers lost before before (g.K.Sink.seen c.args.sink.now)
     (g.K.Sink.seen c.write_line.new.sink) bytes lost
     (lead-lost answers lost before before bytes (λ state stands. stands)) part)
@@ -34,7 +35,7 @@ returns-in-Ok-clause-answered g c =
     let after = g.A.Answerer.stands c.answer.new.self in
     let old = g.K.Sink.seen c.args.sink.now in
     let new = g.K.Sink.seen c.write_line-in-Ok.new.sink in
-    ok-then c.write_line-in-Ok.result
+    on_ok_weaker c.write_line-in-Ok.result
     (λ taken bytes begun.
     let line : c.deref.result.now ≡ bytes = c.deref.ensures.value ∙ begun c.if-line.false in
     one-answered answers lost before after old new bytes c.in-Ok.text
@@ -50,7 +51,7 @@ returns-in-Ok-clause-part g c =
     let after = g.A.Answerer.stands c.answer.new.self in
     let old = g.K.Sink.seen c.args.sink.now in
     let new = g.K.Sink.seen c.write_line-in-Ok.new.sink in
-    err-then c.write_line-in-Ok.result
+    on_err_weaker c.write_line-in-Ok.result
     (λ part bytes begun.
     let line : c.deref.result.now ≡ bytes = c.deref.ensures.value ∙ begun c.if-line.false in
     one-in-part answers lost before after old new bytes c.in-Ok.text
@@ -64,7 +65,7 @@ returns-in-Err-clause-answered g c =
     let lost = c.args.lost.now in
     let before = g.A.Answerer.stands c.args.answerer.now in
     let after = g.A.Answerer.stands c.answer.new.self in
-    ok-then c.write_line-in-Err.result
+    on_ok_weaker c.write_line-in-Err.result
     (λ taken bytes begun. one-answered answers lost before after (g.K.Sink.seen c.args.sink.now)
     (g.K.Sink.seen c.write_line-in-Err.new.sink) bytes lost
     (lead-lost answers lost before after bytes c.in-Err.ensures.kept) taken)
@@ -76,7 +77,7 @@ returns-in-Err-clause-part g c =
     let lost = c.args.lost.now in
     let before = g.A.Answerer.stands c.args.answerer.now in
     let after = g.A.Answerer.stands c.answer.new.self in
-    err-then c.write_line-in-Err.result
+    on_err_weaker c.write_line-in-Err.result
     (λ part bytes begun. one-in-part answers lost before after (g.K.Sink.seen c.args.sink.now)
     (g.K.Sink.seen c.write_line-in-Err.new.sink) bytes lost
     (lead-lost answers lost before after bytes c.in-Err.ensures.kept) part)

@@ -1,11 +1,12 @@
 use Rattle.std.proofs.Common.{◌≡◌, ◌+◌, ◌-◌, ◌++◌, length, take, drop, sym, ap, ◌∙◌, subst, arith, length-drop, take-append-drop}
 use Rattle.std.proofs.Math.Seq.{take-add}
 use Rattle.std.proofs.lemmas.List.{take_rest}
+use Rattle.json_text.proofs.CallerLemmas.{on_err}
 use Rattle.intake.specs.Answering.{WereAnswered, WereAnsweredInPart}
 use Rattle.intake.specs.Lines.{lines_behind, begun_behind}
 use Rattle.intake.specs.inner.Begun.{IsBegun}
 use Rattle.intake.proofs.LineLaws.{lines-append, begun-append}
-use Rattle.intake.proofs.Answered.{err-made, answered-more, part-behind}
+use Rattle.intake.proofs.Answered.{answered-more, part-behind}
 use Rattle.intake.proofs.answering.take_piece.Goals as goal
 
 pub stretches-preserved : goal.stretches-preserved
@@ -56,7 +57,7 @@ returns-in_err-at-clause-part g c =
     let left = take (length piece - at) (drop at piece) in
     let all : take at piece ++ left ≡ piece =
     ap (λ rest. take at piece ++ rest) (take_rest piece at) ∙ take-append-drop at piece in
-    err-made c.from_residual.result
+    on_err c.from_residual.result
     (λ bytes b.
     subst (WereAnsweredInPart answers lost before after old new) (sym (lines-append bytes (take at piece) left)
     ∙ ap (lines_behind bytes) all)

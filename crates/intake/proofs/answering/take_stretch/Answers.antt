@@ -1,10 +1,11 @@
 use Rattle.std.proofs.Common.{◌≡◌, ◌+◌, ◌<◌, [], ◌∷◌, ◌++◌, length, take, drop, refl, sym, ap, ◌∙◌, subst, arith, take-append-drop}
 use Rattle.std.proofs.lemmas.List.{take_all}
+use Rattle.json_text.proofs.CallerLemmas.{on_err}
 use Rattle.intake.specs.Answering.{WereAnswered, WereAnsweredInPart}
 use Rattle.intake.specs.Lines.{lines_behind, begun_behind}
 use Rattle.intake.specs.inner.Begun.{IsBegun}
 use Rattle.intake.proofs.LineLaws.{front-none, none-lines, none-begun, feed-lines, feed-begun, lines-append}
-use Rattle.intake.proofs.Answered.{err-made, none-answered, part-more}
+use Rattle.intake.proofs.Answered.{none-answered, part-more}
 use Rattle.intake.proofs.answering.take_stretch.Goals as goal
 
 pub returns-then-front-piece-clause-begun : goal.returns-then-front-piece-clause-begun
@@ -41,7 +42,7 @@ returns-in_err-answer_begun-clause-part g c =
     let within : n < length piece = omega (arith, c.if-front-piece.false, c.line_end-front.ensures.within) in
     let stretch = take (n + 1) piece in
     let rest = drop (n + 1) piece in
-    err-made c.from_residual.result
+    on_err c.from_residual.result
     (λ bytes begun.
     let line = bytes ++ stretch in
     let lines : lines_behind bytes piece ≡ (line ∷ []) ++ lines_behind (begun_behind bytes stretch) rest =

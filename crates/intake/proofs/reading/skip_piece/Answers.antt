@@ -2,10 +2,10 @@ use Rattle.std.proofs.Common.{◌≡◌, ℕ, ◌+◌, List, ◌++◌, drop, Err
 use Rattle.std.proofs.lemmas.List.{drop_all}
 use Rattle.std.specs.List.{prefix_len}
 use Rattle.json_text.specs.Characters.{is_space}
+use Rattle.json_text.proofs.CallerLemmas.{run-blank}
 use Rattle.json_reader.specs.Feeding.{IsAt}
 use Rattle.intake.specs.declared.reading.Stopped.TheVariants as stopped
 use Rattle.intake.specs.Texts.{IsLed, IsStopped}
-use Rattle.intake.proofs.Blanks.{blank-all}
 use Rattle.intake.proofs.Leads.{extra_there, skipped_on, skipped_fault}
 use Rattle.intake.proofs.reading.skip_piece.Goals as goal
 
@@ -21,13 +21,13 @@ returns-then-at-piece-clause-stopped g c why is stream reader full l more =
 
 pub returns-in-Err-Fault-clause-stopped : goal.returns-in-Err-Fault-clause-stopped
 returns-in-Err-Fault-clause-stopped g c why is stream reader full l more =
-    let space = blank-all c.args.piece.now (omega (arith, c.skip_space-at.ensures, c.if-at-piece.false)) in
+    let space = run-blank c.args.piece.now (omega (arith, c.skip_space-at.ensures, c.if-at-piece.false)) in
     skipped_fault stream c.args.piece.now c.args.feed.now (g.R.Reader.seen reader) full space l
     (c.in-Err-Fault.ensures.first c.in-Err-Fault.fault (ap Err c.in-Err-Fault.field-0-is) stream l.start l.at).0
 
 pub returns-clause-led : goal.returns-clause-led
 returns-clause-led g c used is stream reader full l =
-    let space = blank-all c.args.piece.now (omega (arith, c.skip_space-at.ensures, c.if-at-piece.false)) in
+    let space = run-blank c.args.piece.now (omega (arith, c.skip_space-at.ensures, c.if-at-piece.false)) in
     let same : c.in-Ok.fed.used ≡ used = cc in
     subst (λ (n : ℕ). IsLed stream (drop n c.args.piece.now) c.feed.new.self (g.R.Reader.seen reader)) same
     (skipped_on stream c.args.piece.now c.args.feed.now (g.R.Reader.seen reader) full space l

@@ -1,8 +1,9 @@
 -- The text was tried on one more link.
 use Rattle.std.proofs.Common.{◌≡◌, ◌<◌, ◌+◌, ◌++◌, ◌∷◌, [], Err, true, false, drop, length, get_or, refl, sym, ap, ◌∙◌, append-nil, arith}
+use Rattle.json_text.proofs.CallerLemmas.{on_err}
 use Rattle.room_core.specs.Planned.{texts_told}
 use Rattle.room_core.specs.Told.{Try}
-use Rattle.room_core.proofs.Tries.{told-next, tells-sent, tells-lost, on_err}
+use Rattle.room_core.proofs.Tries.{told-next, tells-sent, tells-lost}
 use Rattle.room_core.proofs.sending.send_all.Goals as goal
 use Rattle.room_core.proofs.sending.send_all.Goals.{in-Ok, in-Err-Gone+in_ok-push-in-Err-Gone}
 

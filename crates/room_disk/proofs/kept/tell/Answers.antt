@@ -1,15 +1,15 @@
 -- The texts of both calls were tried, as far as they came.
 use Rattle.std.proofs.Common.{◌≡◌, ◌++◌, [], subst, sym, ap, ◌∙◌}
+use Rattle.json_text.proofs.CallerLemmas.{on_err}
 use Rattle.room_core.specs.Planned.{texts_told}
 use Rattle.room_core.specs.Told.{HaveTried}
-use Rattle.intake.proofs.CallerLemmas.{err-made}
 use Rattle.room_disk.proofs.KeptEvents.{tried-first, tried-twice}
 use Rattle.room_disk.proofs.kept.tell.Goals as goal
 
 pub returns-in_err-gone-clause-cut : goal.returns-in_err-gone-clause-cut
 returns-in_err-gone-clause-cut g c =
     let cut = c.in_err-gone.ensures.cut in
-    err-made c.from_residual.result (
+    on_err c.from_residual.result (
       cut.0,
       cut.1 ++ texts_told c.args.kept.now,
       tried-first (g.L.Links.seen c.args.links.now) (g.L.Links.seen c.send_all.new.links) (texts_told c.args.told.now)
@@ -19,7 +19,7 @@ returns-in_err-gone-clause-cut g c =
 pub returns-in_err-more-clause-cut : goal.returns-in_err-more-clause-cut
 returns-in_err-more-clause-cut g c =
     let cut = c.in_err-more.ensures.cut in
-    err-made c.from_residual-in_err-more.result (
+    on_err c.from_residual-in_err-more.result (
       c.in_ok-gone.gone.items ++ cut.0,
       cut.1,
       tried-twice (g.L.Links.seen c.args.links.now) (g.L.Links.seen c.send_all.new.links)
@@ -29,7 +29,7 @@ returns-in_err-more-clause-cut g c =
 
 pub returns-in_err-extend_from_slice-clause-cut : goal.returns-in_err-extend_from_slice-clause-cut
 returns-in_err-extend_from_slice-clause-cut g c =
-    err-made c.from_residual-in_err-extend_from_slice.result (
+    on_err c.from_residual-in_err-extend_from_slice.result (
       c.in_ok-gone.gone.items ++ c.in_ok-more.more.items,
       [],
       tried-twice (g.L.Links.seen c.args.links.now) (g.L.Links.seen c.send_all.new.links)

@@ -1,5 +1,5 @@
 use Rattle.std.proofs.Common.{drop, length-drop, arith}
-use Rattle.room_msg.proofs.CallerLemmas.{run-blank}
+use Rattle.json_text.proofs.CallerLemmas.{run-blank}
 use Rattle.room_disk.proofs.line.lone_value.Goals as goal
 
 pub returns-clause-alone : goal.returns-clause-alone

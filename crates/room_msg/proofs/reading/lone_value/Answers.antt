@@ -1,5 +1,5 @@
 use Rattle.std.proofs.Common.{drop, length-drop, arith}
-use Rattle.room_msg.proofs.Blanks.{run-blank}
+use Rattle.json_text.proofs.CallerLemmas.{run-blank}
 use Rattle.room_msg.proofs.reading.lone_value.Goals as goal
 
 pub returns-clause-alone : goal.returns-clause-alone

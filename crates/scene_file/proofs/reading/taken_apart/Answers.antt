@@ -5,10 +5,10 @@ use Rattle.json_text.specs.Members.{pairs}
 use Rattle.scene_json.specs.Walks.{AreLeft, AreTakenTo}
 use Rattle.elem.specs.ElementValue.{ElementValue}
 use Rattle.elem_read.specs.declared.fault.FaultyElement.{FaultyElement}
+use Rattle.elem_read.proofs.CallerLemmas.{is-object}
 use Rattle.scene_file.specs.Reading.{HasItems}
 use Rattle.scene_file.specs.inner.Taken.{HaveCome}
 use Rattle.scene_file.proofs.Apart.{elements, others-are, elements-there, others-there, array-given, none-given}
-use Rattle.scene_file.proofs.Forms.{is-object}
 use Rattle.scene_file.proofs.reading.taken_apart.Goals as goal
 
 given-some : {A : Type 0} (given : Option (Bor A)) (found : Option A) → option_copied given ≡ found

@@ -10,7 +10,7 @@ pub returns-in-None : goal.returns-in-None
 returns-in-None c = λ others h.
     let only = rw (c.in_ok-items.ensures.found c.in-Some.items (ap Ok c.in-Some.is)) at c.items.ensures.only in
     let listed : c.as_slice-item-items.result.now ≡ map quote others =
-    c.as_slice-item-items.ensures ∙ only (map quote others) (quotes-compact others h.0) h.1 in
+    c.as_slice-item-items.ensures ∙ only (map quote others) (quotes-compact 127 others h.0) h.1 in
     c.text_of.ensures.shape (c.in_ok-text.ensures.none (ap Ok c.in-None.is)) (get_or others c.loop-item.item-index [])
     (grind (
       arith,
@@ -49,5 +49,5 @@ returns c =
     rw c.from_vec.ensures (
       (utf8, spelled ∙ ap array_text all),
       λ others h. sym (quotes-once c.loop-item.texts.items others utf8 h.0 (sym all
-          ∙ only (map quote others) (quotes-compact others h.0) h.1)),
+          ∙ only (map quote others) (quotes-compact 127 others h.0) h.1)),
     )

@@ -1,9 +1,9 @@
 use Rattle.std.proofs.Common.{◌+◌, ◌<◌, ◌≤◌, length, get_or, sym, ap, ◌∙◌, subst, arith}
+use Rattle.std.proofs.lemmas.Result.{IfOk-weaker}
 use Rattle.session_text.specs.Facts.{IsAmong, IsEventWithinLimits}
 use Rattle.session.specs.Reports.{IsReportOf}
 use Rattle.session.specs.inner.Standing.{WorldStandsFor}
 use Rattle.session.specs.Worlds.{World, last_world, world_after}
-use Rattle.session.proofs.ReportLaws.{ok-more}
 use Rattle.session.proofs.WorldLaws.{each-event, world-step, world-last}
 use Rattle.session.proofs.replaying.replay.Goals as goal
 
@@ -50,6 +50,6 @@ returns c =
     omega (arith, ap length c.as_slice-event-items.ensures) in
     let stands = subst (WorldStandsFor c.loop-event.world) (world-last session c.loop-event.event-index all)
     c.loop-event.invariant.stands in
-    ok-more c.report_of.result (λ report. (w : World) → WorldStandsFor c.loop-event.world w
+    IfOk-weaker c.report_of.result (λ report. (w : World) → WorldStandsFor c.loop-event.world w
     → IsReportOf session w report) (IsReportOf session (last_world session))
     (λ report told. told (last_world session) stands) c.report_of.ensures

@@ -1,10 +1,9 @@
 use Rattle.std.proofs.Common.{◌≡◌, Some, None, codes, refl, sym, ap, subst, ◌∙◌}
 use Rattle.std.specs.Option.{option_copied}
-use Rattle.std.proofs.lemmas.Option.{MatchOption-at_some, MatchOption-at_none}
+use Rattle.std.proofs.lemmas.Option.{MatchOption-at_some, MatchOption-at_none, same_Some}
 use Rattle.json_text.specs.Members.{pairs}
 use Rattle.scene_json.specs.Named.{value_at}
 use Rattle.elem.specs.Forms.{IsObject}
-use Rattle.session_text.proofs.FormsOne.{same-some}
 use Rattle.session_text.proofs.Readings.{stopped, went_on}
 use Rattle.session_text.proofs.happening.command_in.Goals as goal
 
@@ -29,5 +28,5 @@ returns-in-None c =
     stopped
     (record {
       read =
-          (λ members has. none members (subst (λ v. IsObject v members) (same-some (sym has.1 ∙ at)) has.2), refl);
+          (λ members has. none members (subst (λ v. IsObject v members) (same_Some _ _ (sym has.1 ∙ at)) has.2), refl);
     })

@@ -2,7 +2,7 @@
 use Rattle.std.proofs.Common.{Some, option_copied, sym, ap, ◌∙◌}
 use Rattle.std.specs.Option.{option_map}
 use Rattle.undoing.specs.Undoing.{undone}
-use Rattle.snapshot.proofs.FollowLaws.{follows-undone}
+use Rattle.undoing.proofs.CallerLemmas.{follows-undone}
 use Rattle.snapshot.proofs.carrying.follow.Goals as goal
 
 pub returns-clause-to : goal.returns-clause-to

@@ -4,8 +4,8 @@ use Rattle.std.proofs.lemmas.List.{take_more}
 use Rattle.std.proofs.lemmas.Option.{slice_get_within, get_or_from_slice_get}
 use Rattle.elem.specs.ElementValue.{ElementValue}
 use Rattle.elem_store.specs.Updates.{ids_of}
+use Rattle.elem_store.proofs.CallerLemmas.{within_stored}
 use Rattle.frac_keys.specs.Rising.{are_rising}
-use Rattle.snapshot.proofs.PendingLaws.{stored-at}
 use Rattle.snapshot.proofs.pending.copies_of.Goals as goal
 use Rattle.snapshot.proofs.pending.copies_of.Goals.{in-Some+in_ok-copy+in_ok-push, in_default}
 
@@ -22,7 +22,7 @@ loop-i-preserved c =
           w.in_ok-copy.ensures
           ∙ sym (take_more store i e (slice_get_within store i e at)
           ∙ ap (λ x. take i store ++ x ∷ []) (get_or_from_slice_get store i e e at)))
-      | in_default w ↦ absurd (stored-at store i (omega (arith, c.len-i-end.ensures.exact))
+      | in_default w ↦ absurd (within_stored store i (omega (arith, c.len-i-end.ensures.exact))
           w.in_default.ensures.element)
     ]
 

@@ -4,9 +4,10 @@ use Rattle.elem.specs.ElementValue.{ElementValue}
 use Rattle.delta.specs.Pairs.{EntryStandsFor, pair_with}
 use Rattle.delta.proofs.CallerLemmas.{entry-none}
 use Rattle.elem_store.specs.Updates.{element_of}
+use Rattle.elem_store.proofs.CallerLemmas.{within_stored}
 use Rattle.snapshot.specs.Pending.{pairs_since}
 use Rattle.snapshot.proofs.CapturedLaws.{found-id}
-use Rattle.snapshot.proofs.PendingLaws.{pairs-more, pairs-less, stored-at}
+use Rattle.snapshot.proofs.PendingLaws.{pairs-more, pairs-less}
 use Rattle.snapshot.proofs.pending.parts_since.Goals as goal
 use Rattle.snapshot.proofs.pending.parts_since.Goals.{in-Some+in_ok-note, in_default}
 
@@ -32,7 +33,7 @@ loop-i-preserved c =
           (subst (EntryStandsFor w.note.new.parts.items) (ap (λ o. pairs_since elements (take i store) ++ pair_with o e
           ∷ []) old ∙ pairs-more elements store i e at)
           (w.in_ok-note.ensures _ c.loop-i.invariant (pairs-less elements store i e at c.len-i-end.ensures.ordered)))
-      | in_default w ↦ absurd (stored-at store i (omega (arith, c.len-i-end.ensures.exact))
+      | in_default w ↦ absurd (within_stored store i (omega (arith, c.len-i-end.ensures.exact))
           w.in_default.ensures.element)
     ]
 

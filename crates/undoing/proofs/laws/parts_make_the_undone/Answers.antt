@@ -5,4 +5,5 @@ pub returns-clause-inverse : goal.returns-clause-inverse
 returns-clause-inverse c = inverse-makes
 
 pub returns-clause-part : goal.returns-clause-part
-returns-clause-part c = follows-undone
+returns-clause-part c old new captured isold _ isnew _ kind iscaptured _ part result stands isresult applied =
+    follows-undone old new captured result part isold isnew iscaptured isresult kind stands applied

@@ -8,4 +8,4 @@ pub returns-clause-element : goal.returns-clause-element
 returns-clause-element c = undone-element
 
 pub returns-clause-only : goal.returns-clause-only
-returns-clause-only c = undone-only
+returns-clause-only c pair now of kind isnow _ = undone-only pair now of.0.0 of.1.0 isnow kind

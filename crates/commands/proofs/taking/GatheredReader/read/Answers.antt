@@ -1,8 +1,7 @@
-use Rattle.std.proofs.Common.{◌≡◌, ◌+◌, ◌==◌, ℕ, ◌≤◌, false, arith, sym, subst}
-use Rattle.std.proofs.lemmas.Bool.Decides.{nat_tests}
+use Rattle.std.proofs.Common.{sym, subst}
 use Rattle.elem_store.specs.Updates.{AreStored}
 use Rattle.commands.specs.Readers.{BoardSoFar, SayBoard}
-use Rattle.commands.proofs.Readers.{board-more}
+use Rattle.commands.proofs.Readers.{board-more, later-number}
 use Rattle.commands.proofs.taking.GatheredReader.read.Goals as goal
 
 pub returns-clause-read : goal.returns-clause-read
@@ -16,9 +15,6 @@ returns-clause-read c texts say =
     c.in_ok-take.ensures (λ updates are. c.take_all.ensures updates
     (subst (AreStored updates) (sym c.in_ok-reserve.ensures.elements) are))
     c.in_ok-next.ensures
-
-later-number : (n m : ℕ) → n ≡ m + 1 → 1 ≤ m → (n == 1) ≡ false
-later-number n m next some = grind (arith, nat_tests)
 
 pub returns-clause-enough : goal.returns-clause-enough
 returns-clause-enough c = later-number c.in_ok-next.next c.self.inside.next c.in_ok-next.ensures c.self.invariant

@@ -1,7 +1,7 @@
-use Rattle.std.proofs.Common.{◌≡◌, ◌+◌, ◌==◌, ℕ, ◌≤◌, false, arith, sym, subst}
-use Rattle.std.proofs.lemmas.Bool.Decides.{nat_tests}
+use Rattle.std.proofs.Common.{sym, subst}
 use Rattle.commands.specs.Shelves.{SayShelf, ShelfSoFar}
 use Rattle.commands.proofs.ReadShelves.{shelf-more}
+use Rattle.commands.proofs.Readers.{later-number}
 use Rattle.commands.proofs.taking.ShelvedReader.read.Goals as goal
 
 pub returns-clause-read : goal.returns-clause-read
@@ -10,9 +10,6 @@ returns-clause-read c texts say =
     let new : ShelfSoFar = record { best = c.put_all.new.shelf; next = c.in_ok-next.next } in
     shelf-more texts c.args.text.now c.in_ok-items.items old new (subst (SayShelf texts) (sym c.self.view_is) say)
     c.in_ok-items.ensures.library c.in_ok-put_all.ensures c.in_ok-next.ensures
-
-later-number : (n m : ℕ) → n ≡ m + 1 → 1 ≤ m → (n == 1) ≡ false
-later-number n m next some = grind (arith, nat_tests)
 
 pub returns-clause-enough : goal.returns-clause-enough
 returns-clause-enough c = later-number c.in_ok-next.next c.self.inside.next c.in_ok-next.ensures c.self.invariant

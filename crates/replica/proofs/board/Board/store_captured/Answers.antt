@@ -1,7 +1,7 @@
 use Rattle.std.proofs.Common.{sym, ap, ◌∙◌}
 use Rattle.history.specs.Stacks.{noted}
 use Rattle.undoing.specs.Carrying.{with_all_put}
-use Rattle.replica.proofs.TouchingLaws.{captured-untouched}
+use Rattle.snapshot.proofs.CallerLemmas.{captured-untouched}
 use Rattle.replica.proofs.board.Board.store_captured.Goals as goal
 
 pub returns-clause-ok : goal.returns-clause-ok

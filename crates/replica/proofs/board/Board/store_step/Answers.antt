@@ -1,7 +1,7 @@
 -- The snapshot is what is stored then.
 use Rattle.std.proofs.Common.{sym, ap, ◌∙◌}
 use Rattle.undoing.specs.Carrying.{with_all_put}
-use Rattle.replica.proofs.TouchingLaws.{captured-untouched}
+use Rattle.snapshot.proofs.CallerLemmas.{captured-untouched}
 use Rattle.replica.proofs.board.Board.store_step.Goals as goal
 
 pub returns-clause-untouched : goal.returns-clause-untouched

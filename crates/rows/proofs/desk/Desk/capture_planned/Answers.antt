@@ -1,8 +1,9 @@
 -- The snapshot is what is stored, and the entry has stored ids.
 use Rattle.std.proofs.Common.{sym, ap, ◌∙◌, subst₂}
 use Rattle.undoing.specs.Carrying.{with_all_put}
+use Rattle.snapshot.proofs.CallerLemmas.{captured-untouched}
 use Rattle.rows.specs.Desks.{IsDesk}
-use Rattle.rows.proofs.DeskLaws.{captured-desk, captured-untouched, noted-desk}
+use Rattle.rows.proofs.DeskLaws.{captured-desk, noted-desk}
 use Rattle.rows.proofs.desk.Desk.capture_planned.Goals as goal
 
 pub invariant_of-self-in_err-note : goal.invariant_of-self-in_err-note

@@ -4,9 +4,9 @@ use Rattle.undoing.specs.Carrying.{with_all_put}
 use Rattle.history.specs.declared.planned.Direction.TheVariants.{Undo}
 use Rattle.history.specs.declared.step.Step.{Step}
 use Rattle.history.specs.Stacks.{Stacks, noted, put_step}
-use Rattle.snapshot.proofs.CallerLemmas.{since-stored}
+use Rattle.snapshot.proofs.CallerLemmas.{since-stored, captured-untouched}
 use Rattle.rows.specs.Desks.{IsDesk}
-use Rattle.rows.proofs.DeskLaws.{captured-desk, captured-untouched, noted-desk, planned-desk, taken-back}
+use Rattle.rows.proofs.DeskLaws.{captured-desk, noted-desk, planned-desk, taken-back}
 use Rattle.rows.proofs.desk.Desk.undo_pending.Goals as goal
 
 pub plan-requires-clause-pending : goal.plan-requires-clause-pending
