@@ -11,7 +11,7 @@ use Rattle.std.proofs.lemmas.Option.{slice_get-get_or}
 use Rattle.std.proofs.lemmas.Slice.Eq.{bytes_eq-Decides}
 use Rattle.elem.specs.ElementValue.{ElementValue}
 use Rattle.elem_store.proofs.CallerLemmas.{get-last}
-use Rattle.clash.specs.Marks.{Mark, mark_of, is_marked, mark_cmp, place_of, AreListed}
+use Rattle.clash.specs.inner.Marks.{Mark, mark_of, is_marked, mark_cmp, place_of, AreListed}
 
 -- ---- equal marks
 marks-tied : (a b : Mark) → ((bytes_eq a.0 b.0 && (a.1 == b.1)) && (a.2 == b.2)) ≡ is_eq (mark_cmp a b)

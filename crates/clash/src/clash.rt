@@ -22,7 +22,7 @@ pub struct Clash {
 impl Model for Clash {
     ghost use Rattle.std.specs.Prelude.{List};
     ghost use Rattle.elem.specs.ElementValue.{ElementValue};
-    ghost use Rattle.clash.specs.Marks.{AreListed};
+    ghost use Rattle.clash.specs.inner.Marks.{AreListed};
 
     ghost Value = { List ElementValue };
 

@@ -1,7 +1,7 @@
 //! Ids, versions and nonces.
 
 ghost use Rattle.std.specs.Prelude.{◌≡◌, [], ◌∷◌, ◌++◌, IfOk, OnOk, OnErr};
-ghost use Rattle.clash.specs.Marks.{mark_of, place_of, AreListed};
+ghost use Rattle.clash.specs.inner.Marks.{mark_of, place_of, AreListed};
 
 use elem::Element;
 use json_text::Text;

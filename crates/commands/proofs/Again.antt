@@ -4,7 +4,7 @@ use Rattle.scene_file.specs.declared.layout.Layout.{Layout}
 use Rattle.scene_file.specs.declared.scene.Scene.{Scene}
 use Rattle.commands.specs.Answers.{IsAnswer, IsShownAs}
 use Rattle.commands.specs.Input.{HasScenes}
-use Rattle.commands.specs.declared.words.Command.TheVariants.{Restore, Merge}
+use Rattle.commands.specs.declared.words.ProgramCommand.TheVariants.{Restore, Merge}
 use Rattle.commands.proofs.Inputs.{input-once}
 use Rattle.commands.proofs.Reread.{shown_scene, shown-read, shown-once_more, shown-as_before}
 

@@ -3,22 +3,23 @@ use Rattle.std.proofs.Common.{◌≡◌, ◌⊎◌, inl, inr, ℕ, List, IsSome,
 use Rattle.board_ends.specs.Counts.{Rose}
 use Rattle.board_ends.specs.Ends.{SourceEnd, SinkEnd}
 use Rattle.commands.specs.Answers.{IsAnswer}
-use Rattle.commands.specs.Causes.{HasCause}
+use Rattle.commands.specs.inner.Causes.{HasCause}
 use Rattle.commands.specs.Ends.{Span, span, limit_of, GaveTooMuch, GaveWithin, HasLeft, IsInputFault, WasAnswered, WasDoneInPart, WasRead, WasRefused}
 use Rattle.commands.specs.Faults.{status_of}
 use Rattle.commands.specs.declared.status.Status.TheVariants as status
 use Rattle.commands.specs.declared.status.Fault.{Fault}
 use Rattle.commands.specs.declared.status.Fault.TheVariants as fault
-use Rattle.commands.specs.declared.status.Refusal.{Refusal}
-use Rattle.commands.specs.declared.words.Command.{Command}
+use Rattle.commands.specs.declared.status.InputRefusal.{InputRefusal}
+use Rattle.commands.specs.declared.words.ProgramCommand.{ProgramCommand}
 use Rattle.commands.proofs.Given.{left-excludes, read-excludes, read-whole, within-excludes}
 use Rattle.commands.proofs.Unique.{answer-once}
 
 -- ---- over an input that is told, and answered so
-module _ (command : Command) (bytes : List ℕ) (answer : Result (List ℕ) Refusal) (before after : SourceEnd)
+module _ (command : ProgramCommand) (bytes : List ℕ) (answer : Result (List ℕ) InputRefusal) (before after : SourceEnd)
     (left : HasLeft (limit_of command) before bytes) (answered : IsAnswer command bytes answer) where
   -- what it was answered with is that answer
-  same-answer : (given : List ℕ) (also : Result (List ℕ) Refusal) → WasRead (limit_of command) (span before after) given
+  same-answer : (given : List ℕ) (also : Result (List ℕ) InputRefusal)
+      → WasRead (limit_of command) (span before after) given
       → IsAnswer command given also → also ≡ answer
   same-answer given also read its =
       answer-once command bytes also answer
@@ -44,7 +45,7 @@ module _ (command : Command) (bytes : List ℕ) (answer : Result (List ℕ) Refu
   text-ends text fault.Write out out_after one cause reads = inr (refl, cause.1)
 
   -- the end of a run with a fault, over an input that is answered with a fault: that one
-  pub fault-ends : (why : Refusal) (f : Fault) (out out_after : SinkEnd) → answer ≡ Err why
+  pub fault-ends : (why : InputRefusal) (f : Fault) (out out_after : SinkEnd) → answer ≡ Err why
       → HasCause f command (span before after) (span out out_after)
       → (Rose before.faults after.faults → ⊥) → (status_of f ≡ status.Memory)
       ⊎ ((status_of f ≡ status.Refused) × (f ≡ fault.Refused why))
@@ -60,7 +61,7 @@ module _ (command : Command) (bytes : List ℕ) (answer : Result (List ℕ) Refu
       let both = done-answer out out_after _ cause.0.1 ∙ one in cc
 
 -- ---- what a run with a fault comes from, by its status
-module _ (command : Command) (f : Fault) (input : Span SourceEnd) (output : Span SinkEnd)
+module _ (command : ProgramCommand) (f : Fault) (input : Span SourceEnd) (output : Span SinkEnd)
     (cause : HasCause f command input output) where
   -- a fault of reading is the cause of a run's where nothing was written
   pub refused-cause : status_of f ≡ status.Refused → WasRefused command f input
@@ -126,7 +127,7 @@ module _ (command : Command) (f : Fault) (input : Span SourceEnd) (output : Span
           absurd (read-excludes (limit_of command) cause.0.1.bytes input.before input.after told long cause.0.1.read)
 
 -- a fault of reading an input is a fault of a run over it
-pub input-cause : (command : Command) (f : Fault) (input : Span SourceEnd) (output : Span SinkEnd)
+pub input-cause : (command : ProgramCommand) (f : Fault) (input : Span SourceEnd) (output : Span SinkEnd)
     → IsInputFault (limit_of command) (λ bytes found. IsAnswer command bytes (Err found)) input f
     → HasCause f command input output
 input-cause command fault.Memory input output is = is

@@ -12,8 +12,8 @@ use Rattle.commands.specs.Services.{IsDrillWithinLimits, IsKeeping, IsService, d
 use Rattle.commands.specs.Words.{HasNames, asked, asked_alone, asked_command, asked_drill, asked_begins, asked_form, asked_insert, asked_keeping, asked_layout, asked_paste, asked_plain, asked_room, asked_service, is_name, room_of_words, words_of}
 use Rattle.commands.specs.declared.status.Fault.{Fault}
 use Rattle.commands.specs.declared.status.Fault.TheVariants as fault
-use Rattle.commands.specs.declared.words.Command.{Command}
-use Rattle.commands.specs.declared.words.Command.TheVariants.{Restore, Merge, State, Pictures, Replay, Recover, Paste, Library, Insert}
+use Rattle.commands.specs.declared.words.ProgramCommand.{ProgramCommand}
+use Rattle.commands.specs.declared.words.ProgramCommand.TheVariants.{Restore, Merge, State, Pictures, Replay, Recover, Paste, Library, Insert}
 use Rattle.commands.specs.declared.words.Drill.{Drill}
 use Rattle.commands.specs.declared.words.Begins.{Begins}
 use Rattle.commands.specs.declared.words.Keeping.{Keeping}
@@ -23,7 +23,7 @@ use Rattle.commands.specs.declared.words.Request.{Request}
 use Rattle.commands.specs.declared.words.Request.TheVariants.{Answer, Drill as Drilled, Serve, Keep}
 use Rattle.commands.specs.declared.words.Service.{Service}
 
-asked-words : (command : Command) → HasNames command → asked (words_of command) ≡ Some (Answer command)
+asked-words : (command : ProgramCommand) → HasNames command → asked (words_of command) ≡ Some (Answer command)
 asked-words (Restore Compact) names = refl
 asked-words (Restore Pretty) names = refl
 asked-words (Merge Compact) names = refl
@@ -39,15 +39,15 @@ asked-words (Insert insertion) names =
     ap₂ (λ a b. option_map Answer (if a && b then Some (Insert insertion) else None)) names.0 names.1
 
 -- The words are those of the command, and may stand for its texts.
-abbrev IsAsked : List (List ℕ) → Command → Type 0
+abbrev IsAsked : List (List ℕ) → ProgramCommand → Type 0
 IsAsked words command = (words ≡ words_of command) × HasNames command
 
-asks-so : (made command : Command) (words : List (List ℕ)) → words ≡ words_of made → HasNames made
+asks-so : (made command : ProgramCommand) (words : List (List ℕ)) → words ≡ words_of made → HasNames made
     → Some made ≡ Some command → IsAsked words command
 asks-so made command words is names e = subst (IsAsked words) (same_Some made command e) (is, names)
 
 -- what is found where a word is this one, or by a later test
-tested : (word text : List ℕ) (options : List (List ℕ)) (found rest : Option Command) (command : Command)
+tested : (word text : List ℕ) (options : List (List ℕ)) (found rest : Option ProgramCommand) (command : ProgramCommand)
     → (found ≡ Some command → IsAsked (text ∷ options) command)
     → (rest ≡ Some command → IsAsked (word ∷ options) command)
     → (if bytes_eq word text then found else rest) ≡ Some command → IsAsked (word ∷ options) command
@@ -91,8 +91,8 @@ form-words (word ∷ []) f e = one-word (codes "--scene") word form.Scene f form
 form-words (word ∷ next ∷ more) f e = absurd (none-some f e)
 
 -- what is made of what the words behind a command ask for
-laid-out : {X : Type 0} (make : X → Command) (ask : List (List ℕ) → Option X) (words : X
-    → List (List ℕ)) (word : List ℕ) (options : List (List ℕ)) (command : Command)
+laid-out : {X : Type 0} (make : X → ProgramCommand) (ask : List (List ℕ) → Option X) (words : X
+    → List (List ℕ)) (word : List ℕ) (options : List (List ℕ)) (command : ProgramCommand)
     → ((x : X) → ask options ≡ Some x → options ≡ words x) → ((x : X) → word ∷ words x ≡ words_of (make x))
     → ((x : X) → HasNames (make x))
     → option_map make (ask options) ≡ Some command → IsAsked (word ∷ options) command
@@ -103,7 +103,8 @@ laid-out {X} make ask words word options command said named names e = by (ask op
     by None is e = absurd (none-some command e)
     by (Some x) is e = asks-so (make x) command (word ∷ options) (ap (λ o. word ∷ o) (said x is) ∙ named x) (names x) e
 
-alone : (made command : Command) (word : List ℕ) (options : List (List ℕ)) → word ∷ [] ≡ words_of made → HasNames made
+alone : (made command : ProgramCommand) (word : List ℕ) (options : List (List ℕ)) → word ∷ [] ≡ words_of made
+    → HasNames made
     → asked_alone made options ≡ Some command
     → IsAsked (word ∷ options) command
 alone made command word [] named names e = asks-so made command (word ∷ []) named names e
@@ -121,7 +122,8 @@ recover-words : (f : Form) → codes "recover" ∷ form_options f ≡ words_of (
 recover-words form.State = refl
 recover-words form.Scene = refl
 
-plain-words : (word : List ℕ) (options : List (List ℕ)) (command : Command) → asked_plain word options ≡ Some command
+plain-words : (word : List ℕ) (options : List (List ℕ)) (command : ProgramCommand)
+    → asked_plain word options ≡ Some command
     → IsAsked (word ∷ options) command
 plain-words word options command e =
     tested word (codes "restore") options _ _ command (laid-out Restore asked_layout options_of (codes "restore")
@@ -137,19 +139,19 @@ plain-words word options command e =
     (λ e. absurd (none-some command e)))))))) e
 
 -- a command that takes a text where a word may stand for it
-named : (is : Bool) (made command : Command) (words : List (List ℕ)) → words ≡ words_of made
+named : (is : Bool) (made command : ProgramCommand) (words : List (List ℕ)) → words ≡ words_of made
     → (is ≡ true → HasNames made) → (if is then Some made else None) ≡ Some command → IsAsked words command
 named true made command words said names e = asks-so made command words said (names refl) e
 named false made command words said names e = absurd (none-some command e)
 
-paste-words : (options : List (List ℕ)) (command : Command) → asked_paste options ≡ Some command
+paste-words : (options : List (List ℕ)) (command : ProgramCommand) → asked_paste options ≡ Some command
     → IsAsked (codes "paste" ∷ options) command
 paste-words [] command e = absurd (none-some command e)
 paste-words (prefix ∷ []) command e =
     named (is_name prefix) (Paste prefix) command (codes "paste" ∷ prefix ∷ []) refl (λ is. is) e
 paste-words (prefix ∷ next ∷ more) command e = absurd (none-some command e)
 
-insert-words : (options : List (List ℕ)) (command : Command) → asked_insert options ≡ Some command
+insert-words : (options : List (List ℕ)) (command : ProgramCommand) → asked_insert options ≡ Some command
     → IsAsked (codes "insert" ∷ options) command
 insert-words [] command e = absurd (none-some command e)
 insert-words (item ∷ []) command e = absurd (none-some command e)
@@ -158,7 +160,7 @@ insert-words (item ∷ prefix ∷ []) command e =
     ∷ item ∷ prefix ∷ []) refl (and_parts (is_name item) (is_name prefix)) e
 insert-words (item ∷ prefix ∷ next ∷ more) command e = absurd (none-some command e)
 
-command-words : (word : List ℕ) (options : List (List ℕ)) (command : Command)
+command-words : (word : List ℕ) (options : List (List ℕ)) (command : ProgramCommand)
     → asked_command word options ≡ Some command → IsAsked (word ∷ options) command
 command-words word options command e =
     tested word (codes "paste") options _ _ command (paste-words options command)
@@ -166,7 +168,7 @@ command-words word options command e =
     e
 
 -- what is asked for is one request
-pub same-answer : (a b : Command) → Some (Answer a) ≡ Some (Answer b) → a ≡ b
+pub same-answer : (a b : ProgramCommand) → Some (Answer a) ≡ Some (Answer b) → a ≡ b
 same-answer a b e = cc
 
 pub same-service : (a b : Service) → Some (Serve a) ≡ Some (Serve b) → a ≡ b
@@ -182,7 +184,7 @@ memory-wanted request f asks (inl (usage, none)) is = absurd (none-some request 
 memory-wanted request f asks (inr (memory, some)) is = memory
 
 -- ---- what is asked for is one of the four
-answered : (found : Option Command) (command : Command) → option_map Answer found ≡ Some (Answer command)
+answered : (found : Option ProgramCommand) (command : ProgramCommand) → option_map Answer found ≡ Some (Answer command)
     → found ≡ Some command
 answered None command e = absurd (none-some (Answer command) e)
 answered (Some other) command e = cc
@@ -198,7 +200,7 @@ differs : {A B : Type 0} (make : A → Request) (other : B) (of : B → Request)
 differs make other of None apart e = none-some (of other) e
 differs make other of (Some a) apart e = apart a (same_Some (make a) (of other) e)
 
-not-drilled : (found : Option Drill) (command : Command) → option_map Drilled found ≡ Some (Answer command) → ⊥
+not-drilled : (found : Option Drill) (command : ProgramCommand) → option_map Drilled found ≡ Some (Answer command) → ⊥
 not-drilled found command e = differs Drilled command Answer found (λ drill e. cc) e
 
 -- what the words behind `serve` ask for is a service or a durable room
@@ -236,7 +238,8 @@ by-word word served drilled answered found P serves drills answers e =
       ]
     ]
 
-words-asked : (words : List (List ℕ)) (command : Command) → asked words ≡ Some (Answer command) → IsAsked words command
+words-asked : (words : List (List ℕ)) (command : ProgramCommand) → asked words ≡ Some (Answer command)
+    → IsAsked words command
 words-asked [] command e = absurd (none-some (Answer command) e)
 words-asked (word ∷ options) command e =
     by-word word (asked_room options) (option_map Drilled (asked_drill options))
@@ -247,7 +250,7 @@ words-asked (word ∷ options) command e =
     (λ is. absurd (not-drilled (asked_drill options) command is))
     (λ is. command-words word options command (answered (asked_command word options) command is)) e
 
-pub words-ask : (command : Command) (words : List (List ℕ)) → asked words ≡ Some (Answer command)
+pub words-ask : (command : ProgramCommand) (words : List (List ℕ)) → asked words ≡ Some (Answer command)
     ↔ ((words ≡ words_of command) × HasNames command)
 words-ask command words = (words-asked words command, λ is. ap asked is.0 ∙ asked-words command is.1)
 

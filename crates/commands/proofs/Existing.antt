@@ -25,10 +25,10 @@ use Rattle.commands.specs.Faults.{newline}
 use Rattle.commands.specs.Input.{ScenesLead, HasScenes, HasFaultyText}
 use Rattle.commands.specs.Pictures.{AreLines, IsToldOfPicture}
 use Rattle.commands.specs.Pictures.IsToldOfPicture.{size, not_base64, no_data_url}
-use Rattle.commands.specs.declared.status.Refusal.{Refusal}
-use Rattle.commands.specs.declared.status.Refusal.TheVariants as refusal
-use Rattle.commands.specs.declared.words.Command.{Command}
-use Rattle.commands.specs.declared.words.Command.TheVariants.{Restore, Merge, State, Pictures, Replay, Recover, Paste, Library, Insert}
+use Rattle.commands.specs.declared.status.InputRefusal.{InputRefusal}
+use Rattle.commands.specs.declared.status.InputRefusal.TheVariants as refusal
+use Rattle.commands.specs.declared.words.ProgramCommand.{ProgramCommand}
+use Rattle.commands.specs.declared.words.ProgramCommand.TheVariants.{Restore, Merge, State, Pictures, Replay, Recover, Paste, Library, Insert}
 use Rattle.commands.specs.Words.{HasNames}
 use Rattle.commands.proofs.JournalExists.{AreAnswered, AreWhole, recovered-exists}
 use Rattle.commands.proofs.PasteExists.{pasted-exists}
@@ -150,12 +150,12 @@ pictures-exist scenes read =
     (lines.0, record { head = head; stored = stored; board = board; lines = lines.1 })
 
 -- ---- answers
-abbrev IsAnswered : Command → List ℕ → Type 0
-IsAnswered command bytes = (answer : Result (List ℕ) Refusal) × IsAnswer command bytes answer
+abbrev IsAnswered : ProgramCommand → List ℕ → Type 0
+IsAnswered command bytes = (answer : Result (List ℕ) InputRefusal) × IsAnswer command bytes answer
 
 made-or-refused : (IsOf : List Scene → List ℕ → Type 0) (bytes : List ℕ)
     → ((scenes : List Scene) → AllByRecursion HasText scenes → (text : List ℕ) × IsOf scenes text)
-    → ((text : List ℕ) × IsMadeOf IsOf bytes text) ⊎ ((found : Refusal) × IsRefusal bytes found)
+    → ((text : List ℕ) × IsMadeOf IsOf bytes text) ⊎ ((found : InputRefusal) × IsRefusal bytes found)
 made-or-refused IsOf bytes make = elim (held bytes) [
   | inl (scenes, has) ↦ let made = make scenes (held-texts bytes scenes has) in inl (made.0, (scenes, has, made.1))
   | inr (number, found, faulty) ↦ inr (refusal.Text number found, (number, found, refl, faulty))
@@ -185,7 +185,7 @@ restored layout bytes scene end s = elim (Runs-either is_space (drop end bytes))
   )
 ]
 
-pub answer-exists : AreAnswered → AreWhole → (command : Command) (bytes : List ℕ) → HasNames command
+pub answer-exists : AreAnswered → AreWhole → (command : ProgramCommand) (bytes : List ℕ) → HasNames command
     → IsAnswered command bytes
 answer-exists answered whole (Restore layout) bytes names = elim (scene-or-fault bytes 0 (omega arith)) [
   | inl (scene, end, s) ↦ restored layout bytes scene end s

@@ -8,8 +8,8 @@ use Rattle.scene_file.specs.declared.scene.Scene.{Scene}
 use Rattle.scene_file.specs.declared.fault.SceneFault.TheVariants.{Json}
 use Rattle.scene_file.proofs.CallerLemmas.{StandsAt, scene-or-fault}
 use Rattle.commands.specs.Fronts.{HasFront, IsBehind, IsFrontRefusal}
-use Rattle.commands.specs.declared.status.Refusal.{Refusal}
-use Rattle.commands.specs.declared.status.Refusal.TheVariants as refusal
+use Rattle.commands.specs.declared.status.InputRefusal.{InputRefusal}
+use Rattle.commands.specs.declared.status.InputRefusal.TheVariants as refusal
 
 behind-exists : (bytes : List ℕ) (after : ℕ) → after ≤ length bytes → (more : Option ℕ) × IsBehind bytes after more
 behind-exists bytes after within = elim (Runs-either is_space (drop after bytes)) [
@@ -24,7 +24,7 @@ behind-exists bytes after within = elim (Runs-either is_space (drop after bytes)
 abbrev pub Begun : List ℕ → Type 0
 Begun bytes =
     ((scene : Scene) × (text : List ℕ) × (more : Option ℕ) × HasFront bytes scene text more)
-    ⊎ ((found : Refusal) × IsFrontRefusal bytes found)
+    ⊎ ((found : InputRefusal) × IsFrontRefusal bytes found)
 
 second-exists : (bytes : List ℕ) (scene : Scene) (end : ℕ) → StandsAt bytes 0 scene end → Begun bytes
 second-exists bytes scene end s = elim (value-or-fault bytes end s.within) [

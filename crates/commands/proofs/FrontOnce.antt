@@ -8,8 +8,8 @@ use Rattle.scene_file.specs.declared.scene.Scene.{Scene}
 use Rattle.scene_file.specs.declared.fault.SceneFault.TheVariants.{Json}
 use Rattle.scene_file.proofs.CallerLemmas.{scene-once, fault-once, fault-none}
 use Rattle.commands.specs.Fronts.{HasFront, HasNoTextBehind, IsBehind, IsFrontRefusal, IsSecondRefusal}
-use Rattle.commands.specs.declared.status.Refusal.{Refusal}
-use Rattle.commands.specs.declared.status.Refusal.TheVariants as refusal
+use Rattle.commands.specs.declared.status.InputRefusal.{InputRefusal}
+use Rattle.commands.specs.declared.status.InputRefusal.TheVariants as refusal
 use Rattle.commands.proofs.Inputs.{blank-whole}
 
 -- what stands behind an offset
@@ -50,7 +50,7 @@ behind-scene bytes f g one two =
     (subst (λ n. IsSceneFaultAt bytes n (Json f)) at one.faulty) two.faulty in
     cc
 
-front-refusal-once : (bytes : List ℕ) (f g : Refusal) → IsFrontRefusal bytes f → IsFrontRefusal bytes g → f ≡ g
+front-refusal-once : (bytes : List ℕ) (f g : InputRefusal) → IsFrontRefusal bytes f → IsFrontRefusal bytes g → f ≡ g
 front-refusal-once bytes f g (inl (fault, is, at)) (inl (other, also, too)) =
     is ∙ (ap (refusal.Text 1) (fault-once bytes 0 fault other at too) ∙ sym also)
 front-refusal-once bytes f g (inl (fault, is, at)) (inr (other, also, none)) =
@@ -60,7 +60,8 @@ front-refusal-once bytes f g (inr (fault, is, none)) (inl (other, also, at)) =
 front-refusal-once bytes f g (inr (fault, is, none)) (inr (other, also, bad)) =
     is ∙ (ap (λ (j : JsonFault). refusal.Text 2 (Json j)) (behind-scene bytes fault other none bad) ∙ sym also)
 
-front-none : (bytes : List ℕ) (f : Refusal) (scene : Scene) (text : List ℕ) (more : Option ℕ) → IsFrontRefusal bytes f
+front-none : (bytes : List ℕ) (f : InputRefusal) (scene : Scene) (text : List ℕ) (more : Option ℕ)
+    → IsFrontRefusal bytes f
     → HasFront bytes scene text more → ⊥
 front-none bytes f scene text more (inl (fault, is, at)) front = fault-none bytes 0 fault at front.first
 front-none bytes f scene text more (inr (fault, is, none)) front =
@@ -69,10 +70,10 @@ front-none bytes f scene text more (inr (fault, is, none)) front =
     front.second)
 
 -- ---- the second text
-module _ (IsRead : List ℕ → Type 0) (IsFaulty : List ℕ → Refusal → Type 0)
-    (once : (text : List ℕ) (f g : Refusal) → IsFaulty text f → IsFaulty text g → f ≡ g)
-    (none : (text : List ℕ) (f : Refusal) → IsRead text → IsFaulty text f → ⊥) where
-  pub second-once : (bytes : List ℕ) (f g : Refusal) → IsSecondRefusal IsRead IsFaulty bytes f
+module _ (IsRead : List ℕ → Type 0) (IsFaulty : List ℕ → InputRefusal → Type 0)
+    (once : (text : List ℕ) (f g : InputRefusal) → IsFaulty text f → IsFaulty text g → f ≡ g)
+    (none : (text : List ℕ) (f : InputRefusal) → IsRead text → IsFaulty text f → ⊥) where
+  pub second-once : (bytes : List ℕ) (f g : InputRefusal) → IsSecondRefusal IsRead IsFaulty bytes f
       → IsSecondRefusal IsRead IsFaulty bytes g → f ≡ g
   second-once bytes f g (inl is) (inl also) = front-refusal-once bytes f g is also
   second-once bytes f g (inl is) (inr (inl (scene, text, more, front, faulty))) =
@@ -100,7 +101,7 @@ module _ (IsRead : List ℕ → Type 0) (IsFaulty : List ℕ → Refusal → Typ
       let places : at ≡ place = let e = same.behind in cc in
       is ∙ (ap refusal.Extra places ∙ sym also)
 
-  pub second-none : (bytes : List ℕ) (f : Refusal) (scene : Scene) (text : List ℕ)
+  pub second-none : (bytes : List ℕ) (f : InputRefusal) (scene : Scene) (text : List ℕ)
       → IsSecondRefusal IsRead IsFaulty bytes f → HasFront bytes scene text None → IsRead text → ⊥
   second-none bytes f scene text (inl is) front read = front-none bytes f scene text None is front
   second-none bytes f scene text (inr (inl (other, word, more, begins, faulty))) front read =

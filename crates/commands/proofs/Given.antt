@@ -5,7 +5,7 @@ use Rattle.board_ends.specs.Ends.{SourceEnd}
 use Rattle.commands.specs.Ends.{Span, span, GaveWithin, GaveTooMuch, WasRead, HasLeft, IsInputFault, IsNeverRefused}
 use Rattle.commands.specs.declared.status.Fault.{Fault}
 use Rattle.commands.specs.declared.status.Fault.TheVariants as fault
-use Rattle.commands.specs.declared.status.Refusal.{Refusal}
+use Rattle.commands.specs.declared.status.InputRefusal.{InputRefusal}
 
 -- Where the content is told, what was given has one length.
 one-length : (before after : Option (List ℕ)) (x y : List ℕ) → IsSome before
@@ -64,7 +64,7 @@ read-whole most bytes given before after has read =
     all-given bytes given before.left after.left has.told read.given read.at_end
 
 -- A fault of reading alone is one, whatever is refused.
-pub unread : (most : Option ℕ) (IsRefused : List ℕ → Refusal → Type 0) (input : Span SourceEnd) (f : Fault)
+pub unread : (most : Option ℕ) (IsRefused : List ℕ → InputRefusal → Type 0) (input : Span SourceEnd) (f : Fault)
     → IsInputFault most IsNeverRefused input f → IsInputFault most IsRefused input f
 unread most IsRefused input fault.Memory is = is
 unread most IsRefused input fault.Usage is = is

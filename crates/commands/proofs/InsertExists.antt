@@ -19,9 +19,9 @@ use Rattle.commands.specs.Boards.{IsBoardOf}
 use Rattle.commands.specs.Fronts.{HasFront}
 use Rattle.commands.specs.Shelves.{IsBestOfId}
 use Rattle.commands.specs.Words.{is_name}
-use Rattle.commands.specs.declared.status.Refusal.{Refusal}
-use Rattle.commands.specs.declared.status.Refusal.TheVariants as refusal
-use Rattle.commands.specs.declared.words.Command.TheVariants.{Insert}
+use Rattle.commands.specs.declared.status.InputRefusal.{InputRefusal}
+use Rattle.commands.specs.declared.status.InputRefusal.TheVariants as refusal
+use Rattle.commands.specs.declared.words.ProgramCommand.TheVariants.{Insert}
 use Rattle.commands.specs.declared.words.Insertion.{Insertion}
 use Rattle.commands.proofs.FrontExists.{front-exists}
 use Rattle.commands.proofs.Names.{name-utf8}
@@ -40,7 +40,7 @@ clip-whole item is = live-all IsWholeElement (placed_from 0 item.elements)
 -- ---- answers
 module _ (insertion : Insertion) (bytes : List ℕ) (names : is_name insertion.prefix ≡ true) where
   abbrev IsAnswered : Type 0
-  IsAnswered = (answer : Result (List ℕ) Refusal) × IsAnswer (Insert insertion) bytes answer
+  IsAnswered = (answer : Result (List ℕ) InputRefusal) × IsAnswer (Insert insertion) bytes answer
 
   with-item : (scene : Scene) (text : List ℕ) → HasFront bytes scene text None → (items : List Item)
       → IsLibraryOf text items → (item : Item) → IsBestOfId items insertion.item item → IsAnswered

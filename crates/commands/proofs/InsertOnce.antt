@@ -9,18 +9,18 @@ use Rattle.commands.specs.Answers.{IsAnswer}
 use Rattle.commands.specs.Pastes.{IsExisting, IsPastedAs}
 use Rattle.commands.specs.Fronts.{IsSecondRefusal}
 use Rattle.commands.specs.Shelves.{HasExistingOfItem, HasSceneAndLibrary, IsBestOfId, IsInserted, IsInsertRefusal, IsLibrary, IsNoLibrary}
-use Rattle.commands.specs.declared.status.Refusal.{Refusal}
-use Rattle.commands.specs.declared.status.Refusal.TheVariants as refusal
-use Rattle.commands.specs.declared.words.Command.TheVariants.{Insert}
+use Rattle.commands.specs.declared.status.InputRefusal.{InputRefusal}
+use Rattle.commands.specs.declared.status.InputRefusal.TheVariants as refusal
+use Rattle.commands.specs.declared.words.ProgramCommand.TheVariants.{Insert}
 use Rattle.commands.specs.declared.words.Insertion.{Insertion}
 use Rattle.commands.proofs.FrontOnce.{front-once, second-none, second-once}
 use Rattle.commands.proofs.PasteOnce.{existing-none, existing-once, pasted_as-once}
 
-no-library-once : (text : List ℕ) (f g : Refusal) → IsNoLibrary text f → IsNoLibrary text g → f ≡ g
+no-library-once : (text : List ℕ) (f g : InputRefusal) → IsNoLibrary text f → IsNoLibrary text g → f ≡ g
 no-library-once text f g (fault, is, faulty) (other, also, wrong) =
     is ∙ (ap (refusal.Library 2) (lib_fault-once text fault other faulty wrong) ∙ sym also)
 
-library-none : (text : List ℕ) (f : Refusal) → IsLibrary text → IsNoLibrary text f → ⊥
+library-none : (text : List ℕ) (f : InputRefusal) → IsLibrary text → IsNoLibrary text f → ⊥
 library-none text f (items, read) (fault, is, faulty) = library-faultless text items read fault faulty
 
 -- ---- one scene and one library
@@ -76,7 +76,8 @@ module _ (insertion : Insertion) (bytes : List ℕ) where
       let same = same-input bytes one.scene scene one.items items one.holds holds in
       none one.item (subst (λ is. Contains is one.item) same.libraries one.best.0.among) one.best.1
 
-  not-second : (P : Scene → Item → Type 0) (f : Refusal) (one : On P) → IsSecondRefusal IsLibrary IsNoLibrary bytes f
+  not-second : (P : Scene → Item → Type 0) (f : InputRefusal) (one : On P)
+      → IsSecondRefusal IsLibrary IsNoLibrary bytes f
       → ⊥
   not-second P f one bad = second-none IsLibrary IsNoLibrary no-library-once library-none bytes f one.scene one.holds.0
       bad one.holds.1 (one.items, one.holds.2)
@@ -89,7 +90,8 @@ module _ (insertion : Insertion) (bytes : List ℕ) where
   clash-on place is =
       record { scene = is.scene; items = is.items; holds = is.holds; item = is.item; best = is.best; is = is.is }
 
-  written-none : (text : List ℕ) (f : Refusal) → IsInserted insertion bytes text → IsInsertRefusal insertion bytes f → ⊥
+  written-none : (text : List ℕ) (f : InputRefusal) → IsInserted insertion bytes text
+      → IsInsertRefusal insertion bytes f → ⊥
   written-none text f is (inl bad) = not-second (Writes text) f (written-on text is) bad
   written-none text f is (inr (inl (also, none))) =
       no-item (Writes text) (written-on text is) none.scene none.items none.holds none.none
@@ -97,7 +99,7 @@ module _ (insertion : Insertion) (bytes : List ℕ) where
       existing-none insertion.prefix clash.scene (clip_of clash.item) place text clash.is
       (moved (Writes text) (Clashes place) (written-on text is) (clash-on place clash))
 
-  refusal-once : (f g : Refusal) → IsInsertRefusal insertion bytes f → IsInsertRefusal insertion bytes g → f ≡ g
+  refusal-once : (f g : InputRefusal) → IsInsertRefusal insertion bytes f → IsInsertRefusal insertion bytes g → f ≡ g
   refusal-once f g (inl bad) (inl also) =
       second-once IsLibrary IsNoLibrary no-library-once library-none bytes f g bad also
   refusal-once f g (inl bad) (inr (inl (also, none))) =
@@ -120,7 +122,7 @@ module _ (insertion : Insertion) (bytes : List ℕ) where
       (moved (Clashes place) (Clashes other) (clash-on place clash) (clash-on other one)) one.is in
       is ∙ (ap refusal.Exists places ∙ sym also)
 
-  pub inserted-once : (answer other : Result (List ℕ) Refusal) → IsAnswer (Insert insertion) bytes answer
+  pub inserted-once : (answer other : Result (List ℕ) InputRefusal) → IsAnswer (Insert insertion) bytes answer
       → IsAnswer (Insert insertion) bytes other → answer ≡ other
   inserted-once (Ok a) (Ok b) one two =
       ap Ok (pasted_as-once insertion.prefix two.scene (clip_of two.item) a b

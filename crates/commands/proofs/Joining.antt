@@ -7,7 +7,7 @@ use Rattle.file_table.specs.Table.{AreLeastEntries}
 use Rattle.file_table.proofs.CallerLemmas.{AreLeastEntries-none}
 use Rattle.scene_file.specs.Heads.{Heading, IsJoinedHead, files_of, lesser_source, settings_of}
 use Rattle.scene_file.proofs.CallerLemmas.{all-more, least_source-more}
-use Rattle.commands.specs.Readers.{AreJoined, HeadsSoFar}
+use Rattle.commands.specs.inner.Readers.{AreJoined, HeadsSoFar}
 
 -- what takes all of a list behind what was given before
 abbrev pub TakesAll : List Pair → List Pair → List Pair → Type 0

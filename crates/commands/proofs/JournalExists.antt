@@ -4,9 +4,9 @@ use Rattle.commands.proofs.Shows.{scene-exists, whole-fits, wholes-kept}
 use Rattle.commands.specs.Answers.{IsAnswer}
 use Rattle.commands.specs.Faults.{newline}
 use Rattle.commands.specs.Journals.{IsToldAs}
-use Rattle.commands.specs.declared.status.Refusal.TheVariants as refusal
-use Rattle.commands.specs.declared.status.Refusal.{Refusal}
-use Rattle.commands.specs.declared.words.Command.TheVariants.{Recover}
+use Rattle.commands.specs.declared.status.InputRefusal.TheVariants as refusal
+use Rattle.commands.specs.declared.status.InputRefusal.{InputRefusal}
+use Rattle.commands.specs.declared.words.ProgramCommand.TheVariants.{Recover}
 use Rattle.commands.specs.declared.words.Form.TheVariants as form
 use Rattle.commands.specs.declared.words.Form.{Form}
 use Rattle.elem.specs.ElementValue.{ElementValue}
@@ -219,11 +219,11 @@ told-exists form.State head elements whole each rise = (state_text head elements
 told-exists form.Scene head elements whole each rise =
     scene-exists Compact head elements (whole-fits head whole) whole.settings_ordered (wholes-kept elements each) rise
 
-pub recovered-exists : AreAnswered → AreWhole → (f : Form) (bytes : List ℕ) → (answer : Result (List ℕ) Refusal)
+pub recovered-exists : AreAnswered → AreWhole → (f : Form) (bytes : List ℕ) → (answer : Result (List ℕ) InputRefusal)
     × IsAnswer (Recover f) bytes answer
 recovered-exists answered whole f bytes = by (judged answered (lines_of bytes))
   where
-    by : Judged (lines_of bytes) → (answer : Result (List ℕ) Refusal) × IsAnswer (Recover f) bytes answer
+    by : Judged (lines_of bytes) → (answer : Result (List ℕ) InputRefusal) × IsAnswer (Recover f) bytes answer
     by (inl (head, elements, kept)) =
         let found : Recovered = record { head = head; elements = elements } in
         let (own, each) = whole bytes found kept in

@@ -22,9 +22,9 @@ use Rattle.room_disk.proofs.CallerLemmas.{kept-once, kept-sound}
 use Rattle.commands.specs.Answers.{IsAnswer}
 use Rattle.commands.specs.Faults.{newline}
 use Rattle.commands.specs.Journals.{IsJournalRefusal, IsToldAs}
-use Rattle.commands.specs.declared.status.Refusal.{Refusal}
-use Rattle.commands.specs.declared.status.Refusal.TheVariants as refusal
-use Rattle.commands.specs.declared.words.Command.TheVariants.{Recover}
+use Rattle.commands.specs.declared.status.InputRefusal.{InputRefusal}
+use Rattle.commands.specs.declared.status.InputRefusal.TheVariants as refusal
+use Rattle.commands.specs.declared.words.ProgramCommand.TheVariants.{Recover}
 use Rattle.commands.specs.declared.words.Form.{Form}
 use Rattle.commands.specs.declared.words.Form.TheVariants as form
 use Rattle.commands.proofs.Shows.{scene-once}
@@ -148,13 +148,13 @@ faulty-once lines n m f g one two =
     by (inr (inr (rest, is))) = absurd (faulty-before lines lines m n g f two one rest is)
 
 -- ---- what is told
-pub journal-refusal-once : (bytes : List ℕ) (f g : Refusal) → IsJournalRefusal bytes f → IsJournalRefusal bytes g
+pub journal-refusal-once : (bytes : List ℕ) (f g : InputRefusal) → IsJournalRefusal bytes f → IsJournalRefusal bytes g
     → f ≡ g
 journal-refusal-once bytes f g (number, fault, is, faulty) (other, why, also, wrong) =
     let same = faulty-once (lines_of bytes) number other fault why faulty wrong in
     is ∙ (ap₂ refusal.Line same.0 same.1 ∙ sym also)
 
-pub journal-refusal-none : (bytes : List ℕ) (f : Refusal) (found : Recovered) → IsJournalRefusal bytes f
+pub journal-refusal-none : (bytes : List ℕ) (f : InputRefusal) (found : Recovered) → IsJournalRefusal bytes f
     → IsRecoveredAs bytes (Ok found) → ⊥
 journal-refusal-none bytes f found (number, fault, is, faulty) kept =
     kept-sound (lines_of bytes) found.head found.elements number fault kept faulty
@@ -166,7 +166,7 @@ told-text-once form.State head other stored news a b same kept one two =
 told-text-once form.Scene head other stored news a b same kept one two =
     scene-once Compact head other stored news a b same kept one two
 
-pub recovered-once : (f : Form) (bytes : List ℕ) (answer other : Result (List ℕ) Refusal)
+pub recovered-once : (f : Form) (bytes : List ℕ) (answer other : Result (List ℕ) InputRefusal)
     → IsAnswer (Recover f) bytes answer → IsAnswer (Recover f) bytes other → answer ≡ other
 recovered-once f bytes (Ok a) (Ok b) is also =
     let same = kept-once (lines_of bytes) is.found.head also.found.head is.found.elements also.found.elements is.read

@@ -5,21 +5,22 @@ use Rattle.board_base.specs.declared.stop.Stop.TheVariants as stop
 use Rattle.board_ends.specs.Ends.{SourceEnd}
 use Rattle.commands.specs.Ends.{Span, WasRead, IsInputFault}
 use Rattle.commands.specs.Faults.{stopped}
-use Rattle.commands.specs.declared.status.Refusal.{Refusal}
+use Rattle.commands.specs.declared.status.InputRefusal.{InputRefusal}
 
 -- what a call with a value of this type gave that stopped so
-abbrev pub stopped-so : (T : Type 0) → Stop Refusal → Result T (Stop Refusal)
+abbrev pub stopped-so : (T : Type 0) → Stop InputRefusal → Result T (Stop InputRefusal)
 stopped-so T s = Err s
 
-pub same-stop : (T : Type 0) (a b : Stop Refusal) → stopped-so T a ≡ stopped-so T b → a ≡ b
+pub same-stop : (T : Type 0) (a b : Stop InputRefusal) → stopped-so T a ≡ stopped-so T b → a ≡ b
 same-stop T a b e = cc
 
-pub same-why : (T : Type 0) (a b : Refusal) → stopped-so T (stop.Fault a) ≡ stopped-so T (stop.Fault b) → a ≡ b
+pub same-why : (T : Type 0) (a b : InputRefusal) → stopped-so T (stop.Fault a) ≡ stopped-so T (stop.Fault b) → a ≡ b
 same-why T a b e = cc
 
 -- Bytes that were read are refused, or memory is wanted.
-pub judged-fault : (most : Option ℕ) (IsRefused : List ℕ → Refusal → Type 0) (input : Span SourceEnd) (bytes : List ℕ)
-    → WasRead most input bytes → (s : Stop Refusal)
-    → ((why : Refusal) → s ≡ stop.Fault why → IsRefused bytes why) → IsInputFault most IsRefused input (stopped s)
+pub judged-fault : (most : Option ℕ) (IsRefused : List ℕ → InputRefusal
+    → Type 0) (input : Span SourceEnd) (bytes : List ℕ)
+    → WasRead most input bytes → (s : Stop InputRefusal)
+    → ((why : InputRefusal) → s ≡ stop.Fault why → IsRefused bytes why) → IsInputFault most IsRefused input (stopped s)
 judged-fault most IsRefused input bytes read (stop.Fault why) refused = (bytes, read, refused why refl)
 judged-fault most IsRefused input bytes read stop.Memory refused = tt

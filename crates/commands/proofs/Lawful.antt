@@ -2,7 +2,7 @@
 use Rattle.board_ends.specs.Ends.{SinkEnd, SourceEnd}
 use Rattle.commands.specs.Ends.{Span, WasDone}
 use Rattle.commands.specs.Replays.{HasLaws, OfAll, WroteLawfulReport}
-use Rattle.commands.specs.declared.words.Command.TheVariants.{Replay}
+use Rattle.commands.specs.declared.words.ProgramCommand.TheVariants.{Replay}
 
 pub replay-lawful : OfAll HasLaws → (input : Span SourceEnd) (output : Span SinkEnd) → WasDone Replay input output
     → WroteLawfulReport input output

@@ -3,7 +3,7 @@ use Rattle.std.proofs.Common.{◌≡◌, ◌≢◌, Option, Some, None, refl, �
 use Rattle.board_ends.specs.Counts.{Rose}
 use Rattle.commands.specs.declared.status.Status.{Status}
 use Rattle.commands.specs.declared.status.Status.TheVariants.{Usage}
-use Rattle.commands.specs.declared.words.Command.{Command}
+use Rattle.commands.specs.declared.words.ProgramCommand.{ProgramCommand}
 use Rattle.commands.specs.declared.words.Drill.{Drill}
 use Rattle.commands.specs.declared.words.Keeping.{Keeping}
 use Rattle.commands.specs.declared.words.Request.{Request}
@@ -16,7 +16,7 @@ stays rose = omega (arith, rose)
 
 -- what no form of the words ends with
 pub never : (asks : Option Request) (result status : Status) → status ≢ Usage → (asks ≡ None → result ≡ Usage)
-    → ((command : Command) → asks ≡ Some (request.Answer command) → result ≡ status → ⊥)
+    → ((command : ProgramCommand) → asks ≡ Some (request.Answer command) → result ≡ status → ⊥)
     → ((service : Service) → asks ≡ Some (request.Serve service) → result ≡ status → ⊥)
     → ((drill : Drill) → asks ≡ Some (request.Drill drill) → result ≡ status → ⊥)
     → ((keeping : Keeping) → asks ≡ Some (request.Keep keeping) → result ≡ status → ⊥) → result ≢ status

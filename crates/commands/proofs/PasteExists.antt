@@ -33,9 +33,9 @@ use Rattle.commands.specs.Boards.{IsBoardOf, heads_of, updates_of}
 use Rattle.commands.specs.Fronts.{HasFront}
 use Rattle.commands.specs.Pastes.{IsPastedAs}
 use Rattle.commands.specs.Words.{is_name}
-use Rattle.commands.specs.declared.status.Refusal.{Refusal}
-use Rattle.commands.specs.declared.status.Refusal.TheVariants as refusal
-use Rattle.commands.specs.declared.words.Command.TheVariants.{Paste}
+use Rattle.commands.specs.declared.status.InputRefusal.{InputRefusal}
+use Rattle.commands.specs.declared.status.InputRefusal.TheVariants as refusal
+use Rattle.commands.specs.declared.words.ProgramCommand.TheVariants.{Paste}
 use Rattle.commands.proofs.FrontExists.{front-exists}
 use Rattle.commands.proofs.Names.{name-utf8}
 use Rattle.commands.proofs.Shows.{scene-exists, wholes-kept}
@@ -130,7 +130,7 @@ scene-board scene =
 -- ---- answers
 module _ (prefix bytes : List ℕ) (names : is_name prefix ≡ true) where
   abbrev IsAnswered : Type 0
-  IsAnswered = (answer : Result (List ℕ) Refusal) × IsAnswer (Paste prefix) bytes answer
+  IsAnswered = (answer : Result (List ℕ) InputRefusal) × IsAnswer (Paste prefix) bytes answer
 
   with-clip : (scene : Scene) (text : List ℕ) (more : Option ℕ) → HasFront bytes scene text more → (clip : Clip)
       → IsClipOf text clip → IsAnswered

@@ -18,17 +18,17 @@ use Rattle.scene_file.proofs.CallerLemmas.{head-once}
 use Rattle.commands.specs.Answers.{IsAnswer}
 use Rattle.commands.specs.Boards.{IsBoardOf, heads_of, updates_of}
 use Rattle.commands.specs.Pastes.{IsClip, IsExisting, IsNoClip, IsPastedAs}
-use Rattle.commands.specs.declared.status.Refusal.{Refusal}
-use Rattle.commands.specs.declared.status.Refusal.TheVariants as refusal
-use Rattle.commands.specs.declared.words.Command.TheVariants.{Paste}
+use Rattle.commands.specs.declared.status.InputRefusal.{InputRefusal}
+use Rattle.commands.specs.declared.status.InputRefusal.TheVariants as refusal
+use Rattle.commands.specs.declared.words.ProgramCommand.TheVariants.{Paste}
 use Rattle.commands.proofs.FrontOnce.{front-once, second-none, second-once}
 use Rattle.commands.proofs.Shows.{scene-once}
 
-no-clip-once : (text : List ℕ) (f g : Refusal) → IsNoClip text f → IsNoClip text g → f ≡ g
+no-clip-once : (text : List ℕ) (f g : InputRefusal) → IsNoClip text f → IsNoClip text g → f ≡ g
 no-clip-once text f g (fault, is, faulty) (other, also, wrong) =
     is ∙ (ap refusal.Clip (fault-once text fault other faulty wrong) ∙ sym also)
 
-clip-none : (text : List ℕ) (f : Refusal) → IsClip text → IsNoClip text f → ⊥
+clip-none : (text : List ℕ) (f : InputRefusal) → IsClip text → IsNoClip text f → ⊥
 clip-none text f (clip, read) (fault, is, faulty) = clip-faultless text clip read fault faulty
 
 -- ---- what is pasted
@@ -76,7 +76,7 @@ existing-none prefix scene clip place text one two =
     cc
 
 -- ---- answers
-pub pasted-once : (prefix bytes : List ℕ) (answer other : Result (List ℕ) Refusal)
+pub pasted-once : (prefix bytes : List ℕ) (answer other : Result (List ℕ) InputRefusal)
     → IsAnswer (Paste prefix) bytes answer → IsAnswer (Paste prefix) bytes other → answer ≡ other
 pasted-once prefix bytes (Ok a) (Ok b) one two =
     let same = front-once bytes one.scene two.scene one.holds.0 two.holds.0 None None one.holds.1 two.holds.1 in

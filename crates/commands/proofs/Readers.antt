@@ -13,7 +13,7 @@ use Rattle.elem.specs.ElementValue.{ElementValue}
 use Rattle.elem_store.specs.Updates.{AreStored, stored_of}
 use Rattle.commands.specs.Answers.{IsOneRefusal, IsRefusal}
 use Rattle.commands.specs.Boards.{IsBoardOf, heads_of, updates_of}
-use Rattle.commands.specs.Readers.{SayScenes, SayBoard, AreJoined, BoardSoFar, HeadsSoFar, board_seen, one_seen, listed, refusal_of}
+use Rattle.commands.specs.inner.Readers.{SayScenes, SayBoard, AreJoined, BoardSoFar, HeadsSoFar, board_seen, one_seen, listed, refusal_of}
 use Rattle.commands.specs.Input.{ScenesLead, HasScenes}
 use Rattle.scene_file.specs.Heads.{Heading, IsJoinedHead}
 use Rattle.scene_file.specs.Reading.{IsSceneOf, IsSceneAt, IsSceneFaultAt}

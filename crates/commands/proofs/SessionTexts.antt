@@ -19,7 +19,7 @@ use Rattle.session_text.specs.declared.fault.TextFault.TheVariants.{Json}
 use Rattle.session_text.specs.declared.session.Session.{Session}
 use Rattle.session_text.proofs.CallerLemmas.{begun-at}
 use Rattle.commands.specs.Answers.{IsSessionRefusal}
-use Rattle.commands.specs.SessionTexts.{SayEvents, SaySession, session_seen, session_refusal_of}
+use Rattle.commands.specs.inner.SessionTexts.{SayEvents, SaySession, session_seen, session_refusal_of}
 
 events-lead : (replicas made : ℕ) (bytes rest : List ℕ) (texts : List (List ℕ)) (events : List Event)
     → SayEvents replicas made texts events → TextsLead bytes texts rest → EventsLead replicas made bytes events rest

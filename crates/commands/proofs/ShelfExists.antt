@@ -15,16 +15,16 @@ use Rattle.scene_file.proofs.CallerLemmas.{Stands-behind}
 use Rattle.commands.specs.Answers.{IsAnswer}
 use Rattle.commands.specs.Faults.{newline}
 use Rattle.commands.specs.Shelves.{HasLibrariesTo, HasTexts, IsShelfRefusal}
-use Rattle.commands.specs.declared.status.Refusal.{Refusal}
-use Rattle.commands.specs.declared.status.Refusal.TheVariants as refusal
-use Rattle.commands.specs.declared.words.Command.TheVariants.{Library}
+use Rattle.commands.specs.declared.status.InputRefusal.{InputRefusal}
+use Rattle.commands.specs.declared.status.InputRefusal.TheVariants as refusal
+use Rattle.commands.specs.declared.words.ProgramCommand.TheVariants.{Library}
 use Rattle.commands.proofs.ReadShelves.{have-more}
 
 -- the libraries of an input, or its first faulty text
 abbrev Held : List ℕ → Type 0
 Held bytes =
     ((texts : List (List ℕ)) × (items : List Item) × HasTexts bytes texts × HaveItems texts items)
-    ⊎ ((found : Refusal) × IsShelfRefusal bytes found)
+    ⊎ ((found : InputRefusal) × IsShelfRefusal bytes found)
 
 leads-more : (bytes rest next text : List ℕ) (texts : List (List ℕ)) → TextsLead bytes texts rest
     → Stands rest text next → TextsLead bytes (texts ++ text ∷ []) next
@@ -95,7 +95,7 @@ held-from bytes (suc left) at texts items within near lead have =
 held : (bytes : List ℕ) → Held bytes
 held bytes = held-from bytes (length bytes) 0 [] [] (omega arith) (omega arith) refl refl
 
-pub shelf-exists : (bytes : List ℕ) → (answer : Result (List ℕ) Refusal) × IsAnswer Library bytes answer
+pub shelf-exists : (bytes : List ℕ) → (answer : Result (List ℕ) InputRefusal) × IsAnswer Library bytes answer
 shelf-exists bytes = elim (held bytes) [
   | inl (texts, items, holds, have) ↦
       let best = best-exist items in (

@@ -18,9 +18,9 @@ use Rattle.scene_file.proofs.CallerLemmas.{Stands-no_blank, fault-once}
 use Rattle.commands.specs.Answers.{IsAnswer}
 use Rattle.commands.specs.Faults.{newline}
 use Rattle.commands.specs.Shelves.{HasFaultyLibrary, HasFaultyValue, HasLibrariesTo, IsShelfRefusal, IsShelved}
-use Rattle.commands.specs.declared.status.Refusal.{Refusal}
-use Rattle.commands.specs.declared.status.Refusal.TheVariants as refusal
-use Rattle.commands.specs.declared.words.Command.TheVariants.{Library}
+use Rattle.commands.specs.declared.status.InputRefusal.{InputRefusal}
+use Rattle.commands.specs.declared.status.InputRefusal.TheVariants as refusal
+use Rattle.commands.specs.declared.words.ProgramCommand.TheVariants.{Library}
 
 -- no library stands at the front
 abbrev HasNone : List ℕ → Type 0
@@ -114,7 +114,7 @@ value-library bytes n m f g (start, count, is, to, faulty) (other, number, also,
     (library-none bytes other word end g here wrong) in
     (subst (λ at. IsFirstFault bytes at f) same.places faulty).faulty word end here
 
-shelf-refusal-once : (bytes : List ℕ) (f g : Refusal) → IsShelfRefusal bytes f → IsShelfRefusal bytes g → f ≡ g
+shelf-refusal-once : (bytes : List ℕ) (f g : InputRefusal) → IsShelfRefusal bytes f → IsShelfRefusal bytes g → f ≡ g
 shelf-refusal-once bytes f g (inl (n, fault, is, faulty)) (inl (m, other, also, wrong)) =
     let same = value-once bytes n m fault other faulty wrong in is
     ∙ (ap₂ (λ k (j : JsonFault). refusal.Text k (Json j)) same.0 same.1 ∙ sym also)
@@ -139,7 +139,7 @@ none-behind bytes text start count is to none =
     by texts rest (inl empty) = is.holds.some (texts ∙ empty)
     by texts rest (inr more) = both_ways (is_blank (drop start bytes)) more (sym (ap is_blank rest) ∙ is.holds.space)
 
-shelf-none : (bytes text : List ℕ) (f : Refusal) → IsShelved bytes text → IsShelfRefusal bytes f → ⊥
+shelf-none : (bytes text : List ℕ) (f : InputRefusal) → IsShelved bytes text → IsShelfRefusal bytes f → ⊥
 shelf-none bytes text f is (inl (n, fault, also, (start, count, counted, to, faulty))) =
     none-behind bytes text start count is to (fault-none bytes start fault faulty)
 shelf-none bytes text f is (inr (n, fault, also, (start, count, counted, to, (word, rest, stands, faulty)))) =
@@ -154,7 +154,7 @@ shelved-once bytes text other one two =
     ∙ (ap (λ t. t ++ newline) (library_of-once two.texts one.written two.written
     (subst (λ ts. IsLibraryOfAll ts one.written) both.0 one.library) two.library) ∙ sym two.ended)
 
-pub shelf-once : (bytes : List ℕ) (answer other : Result (List ℕ) Refusal) → IsAnswer Library bytes answer
+pub shelf-once : (bytes : List ℕ) (answer other : Result (List ℕ) InputRefusal) → IsAnswer Library bytes answer
     → IsAnswer Library bytes other → answer ≡ other
 shelf-once bytes (Ok a) (Ok b) is also = ap Ok (shelved-once bytes a b is also)
 shelf-once bytes (Ok a) (Err g) is also = absurd (shelf-none bytes a g is also)

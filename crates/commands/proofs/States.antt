@@ -20,8 +20,8 @@ use Rattle.commands.specs.Answers.{IsAnswer, IsShownAs, IsStoredAs, HasPictures}
 use Rattle.commands.specs.Boards.{IsBoardOf, heads_of, updates_of}
 use Rattle.commands.specs.Faults.{newline}
 use Rattle.commands.specs.Input.{ScenesLead, HasScenes}
-use Rattle.commands.specs.declared.words.Command.{Command}
-use Rattle.commands.specs.declared.words.Command.TheVariants.{Restore, Merge, State, Pictures, Replay, Recover, Paste, Library, Insert}
+use Rattle.commands.specs.declared.words.ProgramCommand.{ProgramCommand}
+use Rattle.commands.specs.declared.words.ProgramCommand.TheVariants.{Restore, Merge, State, Pictures, Replay, Recover, Paste, Library, Insert}
 use Rattle.commands.proofs.Inputs.{input-once}
 use Rattle.commands.proofs.Reread.{board-whole}
 
@@ -214,7 +214,7 @@ states-stand input state (more ∷ inputs) (other ∷ states) is are =
     (states-stand more other inputs states are.0 are.1)
 
 -- ---- answers
-answer-same : (command : Command) (bytes text other : List ℕ) (scenes others : List Scene) → TakesScenes command
+answer-same : (command : ProgramCommand) (bytes text other : List ℕ) (scenes others : List Scene) → TakesScenes command
     → HasScenes bytes scenes → HasScenes other others → HaveSameParts scenes others
     → IsAnswer command bytes (Ok text) → IsAnswer command other (Ok text)
 answer-same (Restore layout) bytes text other scenes others takes has also same is = absurd takes
@@ -263,7 +263,7 @@ answer-same (Paste prefix) bytes text other scenes others takes has also same is
 answer-same Library bytes text other scenes others takes has also same is = absurd takes
 answer-same (Insert insertion) bytes text other scenes others takes has also same is = absurd takes
 
-pub states-stand_for : (command : Command) (inputs states : List (List ℕ)) (text : List ℕ) → TakesScenes command
+pub states-stand_for : (command : ProgramCommand) (inputs states : List (List ℕ)) (text : List ℕ) → TakesScenes command
     → AreStates inputs states
     → IsAnswer command (concat states) (Ok text) ↔ IsAnswer command (concat inputs) (Ok text)
 states-stand_for command [] [] text takes are = (λ is. is, λ is. is)

@@ -28,10 +28,10 @@ use Rattle.commands.specs.Faults.{newline}
 use Rattle.commands.specs.Input.{HasScenes}
 use Rattle.commands.specs.Pictures.{AreLines, IsToldOfPicture}
 use Rattle.commands.specs.Pictures.IsToldOfPicture.{size, not_base64, no_data_url}
-use Rattle.commands.specs.declared.status.Refusal.{Refusal}
-use Rattle.commands.specs.declared.status.Refusal.TheVariants as refusal
-use Rattle.commands.specs.declared.words.Command.{Command}
-use Rattle.commands.specs.declared.words.Command.TheVariants.{Restore, Merge, State, Pictures, Replay, Recover, Paste, Library, Insert}
+use Rattle.commands.specs.declared.status.InputRefusal.{InputRefusal}
+use Rattle.commands.specs.declared.status.InputRefusal.TheVariants as refusal
+use Rattle.commands.specs.declared.words.ProgramCommand.{ProgramCommand}
+use Rattle.commands.specs.declared.words.ProgramCommand.TheVariants.{Restore, Merge, State, Pictures, Replay, Recover, Paste, Library, Insert}
 use Rattle.commands.proofs.Reread.{scenes-whole, heads-whole, updates-elements}
 use Rattle.commands.proofs.JournalOnce.{recovered-once}
 use Rattle.commands.proofs.PasteOnce.{pasted-once}
@@ -113,16 +113,17 @@ pictures-once {other = other} a b =
     lines-once _ _ _ a.lines (subst (λ fs. AreLines fs other) (sym files) b.lines)
 
 -- ---- faults
-refusal-once : (bytes : List ℕ) (f g : Refusal) → IsRefusal bytes f → IsRefusal bytes g → f ≡ g
+refusal-once : (bytes : List ℕ) (f g : InputRefusal) → IsRefusal bytes f → IsRefusal bytes g → f ≡ g
 refusal-once bytes f g (number, found, is, faulty) (other, why, also, wrong) =
     let same = faulty-once bytes number other found why faulty wrong in
     is ∙ (ap₂ refusal.Text same.0 same.1 ∙ sym also)
 
-pub refusal-none : (bytes : List ℕ) (f : Refusal) (scenes : List Scene) → IsRefusal bytes f → HasScenes bytes scenes → ⊥
+pub refusal-none : (bytes : List ℕ) (f : InputRefusal) (scenes : List Scene) → IsRefusal bytes f
+    → HasScenes bytes scenes → ⊥
 refusal-none bytes f scenes (number, found, is, faulty) has = faulty-scenes bytes number found scenes faulty has
 
 -- a refusal of what is to be one scene: for its text, or for what follows it
-one-once : (bytes : List ℕ) (f g : Refusal) → IsOneRefusal bytes f → IsOneRefusal bytes g → f ≡ g
+one-once : (bytes : List ℕ) (f g : InputRefusal) → IsOneRefusal bytes f → IsOneRefusal bytes g → f ≡ g
 one-once bytes f g (inl (found, is, at)) (inl (other, also, too)) =
     is ∙ (ap (refusal.Text 1) (fault-once bytes 0 found other at too) ∙ sym also)
 one-once bytes f g (inl (found, is, at)) (inr (place, also, e)) = absurd (fault-none bytes 0 found at e.lead)
@@ -130,16 +131,17 @@ one-once bytes f g (inr (place, is, e)) (inl (found, also, at)) = absurd (fault-
 one-once bytes f g (inr (place, is, e)) (inr (other, also, d)) =
     is ∙ (ap refusal.Extra (extra-once bytes place other e d) ∙ sym also)
 
-one-none : (bytes : List ℕ) (f : Refusal) (scene : Scene) → IsOneRefusal bytes f → HasScenes bytes (scene ∷ []) → ⊥
+one-none : (bytes : List ℕ) (f : InputRefusal) (scene : Scene) → IsOneRefusal bytes f → HasScenes bytes (scene ∷ []) → ⊥
 one-none bytes f scene (inl (found, is, at)) has = fault-none bytes 0 found at has.lead.1
 one-none bytes f scene (inr (place, is, e)) has = extra-scene bytes place scene e has
 
 -- ---- sessions
-replay-refusal-once : (bytes : List ℕ) (f g : Refusal) → IsSessionRefusal bytes f → IsSessionRefusal bytes g → f ≡ g
+replay-refusal-once : (bytes : List ℕ) (f g : InputRefusal) → IsSessionRefusal bytes f → IsSessionRefusal bytes g
+    → f ≡ g
 replay-refusal-once bytes f g (fault, is, at) (other, also, too) =
     is ∙ (ap session_refusal (session-fault-once bytes fault other at too) ∙ sym also)
 
-replayed-none : (bytes text : List ℕ) (f : Refusal) → IsReplayed bytes text → IsSessionRefusal bytes f → ⊥
+replayed-none : (bytes text : List ℕ) (f : InputRefusal) → IsReplayed bytes text → IsSessionRefusal bytes f → ⊥
 replayed-none bytes text f replayed (fault, is, at) = session-none bytes replayed.session fault replayed.read at
 
 replayed-once : (bytes text other : List ℕ) → IsReplayed bytes text → IsReplayed bytes other → text ≡ other
@@ -156,11 +158,11 @@ made-once : (IsOf : List Scene → List ℕ → Type 0) (bytes text other : List
 made-once IsOf bytes text other once (scenes, has, is) (others, also, too) =
     once scenes is (subst (λ s. IsOf s other) (input-once bytes others scenes also has) too)
 
-made-none : (IsOf : List Scene → List ℕ → Type 0) (bytes text : List ℕ) (f : Refusal) → IsMadeOf IsOf bytes text
+made-none : (IsOf : List Scene → List ℕ → Type 0) (bytes text : List ℕ) (f : InputRefusal) → IsMadeOf IsOf bytes text
     → IsRefusal bytes f → ⊥
 made-none IsOf bytes text f (scenes, has, is) refused = refusal-none bytes f scenes refused has
 
-pub answer-once : (command : Command) (bytes : List ℕ) (answer other : Result (List ℕ) Refusal)
+pub answer-once : (command : ProgramCommand) (bytes : List ℕ) (answer other : Result (List ℕ) InputRefusal)
     → IsAnswer command bytes answer → IsAnswer command bytes other → answer ≡ other
 answer-once (Restore layout) bytes (Ok a) (Ok b) (scene, has, is) (next, also, too) =
     ap Ok (shown-once is (subst (λ s. IsShownAs s layout b) (input-once bytes (next ∷ []) (scene ∷ []) also has) too))

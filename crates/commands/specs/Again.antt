@@ -3,8 +3,8 @@ use Rattle.std.specs.Prelude.{◌↔◌, ℕ, List, [], ◌∷◌, Ok}
 use Rattle.std.specs.List.{concat}
 use Rattle.scene_file.specs.declared.layout.Layout.{Layout}
 use Rattle.commands.specs.Answers.{IsAnswer}
-use Rattle.commands.specs.declared.words.Command.{Command}
-use Rattle.commands.specs.declared.words.Command.TheVariants.{Restore, Merge, State, Pictures, Replay, Recover, Paste, Library, Insert}
+use Rattle.commands.specs.declared.words.ProgramCommand.{ProgramCommand}
+use Rattle.commands.specs.declared.words.ProgramCommand.TheVariants.{Restore, Merge, State, Pictures, Replay, Recover, Paste, Library, Insert}
 
 -- What was restored, in whatever layout, is restored to the texts that the input is restored to:
 -- nothing is restored twice.
@@ -20,7 +20,7 @@ RestoresMerges =
     → IsAnswer (Restore layout) text (Ok other) ↔ IsAnswer (Merge layout) bytes (Ok other)
 
 -- a command that takes any number of scenes
-abbrev pub TakesScenes : Command → Type 0
+abbrev pub TakesScenes : ProgramCommand → Type 0
 TakesScenes (Restore layout) = ⊥
 TakesScenes (Merge layout) = Unit {0}
 TakesScenes State = Unit {0}
@@ -43,6 +43,6 @@ AreStates (input ∷ inputs) (state ∷ states) =
 -- from them.
 abbrev pub StatesStandFor : Type 0
 StatesStandFor =
-    (command : Command) (inputs states : List (List ℕ)) (text : List ℕ) → TakesScenes command
+    (command : ProgramCommand) (inputs states : List (List ℕ)) (text : List ℕ) → TakesScenes command
     → AreStates inputs states
     → IsAnswer command (concat states) (Ok text) ↔ IsAnswer command (concat inputs) (Ok text)

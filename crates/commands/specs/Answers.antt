@@ -25,10 +25,10 @@ use Rattle.commands.specs.Journals.{IsRecovered, IsJournalRefusal}
 use Rattle.commands.specs.Pastes.{IsPasted, IsPasteRefusal}
 use Rattle.commands.specs.Pictures.{AreLines}
 use Rattle.commands.specs.Shelves.{IsShelved, IsShelfRefusal, IsInserted, IsInsertRefusal}
-use Rattle.commands.specs.declared.status.Refusal.{Refusal}
-use Rattle.commands.specs.declared.status.Refusal.TheVariants as refusal
-use Rattle.commands.specs.declared.words.Command.{Command}
-use Rattle.commands.specs.declared.words.Command.TheVariants.{Restore, Merge, State, Pictures, Replay, Recover, Paste, Library, Insert}
+use Rattle.commands.specs.declared.status.InputRefusal.{InputRefusal}
+use Rattle.commands.specs.declared.status.InputRefusal.TheVariants as refusal
+use Rattle.commands.specs.declared.words.ProgramCommand.{ProgramCommand}
+use Rattle.commands.specs.declared.words.ProgramCommand.TheVariants.{Restore, Merge, State, Pictures, Replay, Recover, Paste, Library, Insert}
 
 -- The text of the scene that the board of these scenes shows, and a newline. Its keys rise
 -- strictly, and its elements agree on their links, frames and groups.
@@ -58,24 +58,24 @@ pub record HasPictures (scenes : List Scene) (text : List ℕ) : Type 0 where
 
 -- The first fault of an input that is to be one scene: its first text has it, or a further byte
 -- follows the scene.
-abbrev pub IsOneRefusal : List ℕ → Refusal → Type 0
+abbrev pub IsOneRefusal : List ℕ → InputRefusal → Type 0
 IsOneRefusal bytes found =
     ((fault : SceneFault) × (found ≡ refusal.Text 1 fault) × IsSceneFaultAt bytes 0 fault)
     ⊎ ((at : ℕ) × (found ≡ refusal.Extra at) × HasExtraText bytes at)
 
 -- The first fault of an input that is to be one scene at least: the first text with a fault has it.
-abbrev pub IsRefusal : List ℕ → Refusal → Type 0
+abbrev pub IsRefusal : List ℕ → InputRefusal → Type 0
 IsRefusal bytes found =
     (number : ℕ) × (fault : SceneFault) × (found ≡ refusal.Text number fault)
     × HasFaultyText bytes number fault
 
 -- what a session's fault is told as
-abbrev pub session_refusal : SessionFault → Refusal
+abbrev pub session_refusal : SessionFault → InputRefusal
 session_refusal (In number found) = refusal.Event number found
 session_refusal TooMany = refusal.TooMany
 
 -- The first fault of an input that is to be a session.
-abbrev pub IsSessionRefusal : List ℕ → Refusal → Type 0
+abbrev pub IsSessionRefusal : List ℕ → InputRefusal → Type 0
 IsSessionRefusal bytes found =
     (fault : SessionFault) × (found ≡ session_refusal fault) × IsSessionFault bytes fault
 
@@ -92,7 +92,7 @@ abbrev pub IsMadeOf : (List Scene → List ℕ → Type 0) → List ℕ → List
 IsMadeOf IsOf bytes text = (scenes : List Scene) × HasScenes bytes scenes × IsOf scenes text
 
 -- What a command answers an input with: this text, or this first fault.
-abbrev pub IsAnswer : Command → List ℕ → Result (List ℕ) Refusal → Type 0
+abbrev pub IsAnswer : ProgramCommand → List ℕ → Result (List ℕ) InputRefusal → Type 0
 IsAnswer (Restore layout) bytes (Ok text) =
     (scene : Scene) × HasScenes bytes (scene ∷ []) × IsShownAs (scene ∷ []) layout text
 IsAnswer (Restore layout) bytes (Err found) = IsOneRefusal bytes found

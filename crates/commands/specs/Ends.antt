@@ -8,9 +8,9 @@ use Rattle.commands.specs.declared.status.Status.{Status}
 use Rattle.commands.specs.declared.status.Status.TheVariants.{Done, Refused, WriteFault}
 use Rattle.commands.specs.declared.status.Fault.{Fault}
 use Rattle.commands.specs.declared.status.Fault.TheVariants as fault
-use Rattle.commands.specs.declared.status.Refusal.{Refusal}
-use Rattle.commands.specs.declared.words.Command.{Command}
-use Rattle.commands.specs.declared.words.Command.TheVariants.{Recover}
+use Rattle.commands.specs.declared.status.InputRefusal.{InputRefusal}
+use Rattle.commands.specs.declared.words.ProgramCommand.{ProgramCommand}
+use Rattle.commands.specs.declared.words.ProgramCommand.TheVariants.{Recover}
 
 -- What is seen of an end before a run, and after it.
 pub record Span (End : Type 0) : Type 0 where
@@ -25,7 +25,7 @@ abbrev pub limit : Option ℕ
 limit = Some 67108864
 
 -- how many bytes the input of a command has at most: a journal may have any number of them
-abbrev pub limit_of : Command → Option ℕ
+abbrev pub limit_of : ProgramCommand → Option ℕ
 limit_of (Recover form) = None
 limit_of other = limit
 
@@ -58,13 +58,14 @@ pub record HasLeft (most : Option ℕ) (before : SourceEnd) (bytes : List ℕ) :
   pub within : IsWithin most (length bytes)
 
 -- no bytes are refused
-abbrev pub IsNeverRefused : List ℕ → Refusal → Type 0
+abbrev pub IsNeverRefused : List ℕ → InputRefusal → Type 0
 IsNeverRefused bytes found = ⊥
 
 -- What a fault of reading an input comes from, which is refused so: a failure to read where the
 -- input's count of faults rose; more bytes than the limit; or bytes that were read to their end and
 -- are to be refused.
-abbrev pub IsInputFault : Option ℕ → (List ℕ → Refusal → Type 0) → Span SourceEnd → Fault → Type 0
+abbrev pub IsInputFault : Option ℕ → (List ℕ → InputRefusal → Type 0) → Span SourceEnd → Fault
+    → Type 0
 IsInputFault most IsRefused input fault.Memory = Unit {0}
 IsInputFault most IsRefused input fault.Usage = ⊥
 IsInputFault most IsRefused input fault.Read =
@@ -76,7 +77,7 @@ IsInputFault most IsRefused input fault.Write = ⊥
 
 -- The command answers the input, which was read to its end, with a text, of which so much was
 -- written.
-pub record WasAnswered (command : Command) (input : Span SourceEnd) (output : Span SinkEnd)
+pub record WasAnswered (command : ProgramCommand) (input : Span SourceEnd) (output : Span SinkEnd)
     (part : List ℕ → List ℕ) : Type 0 where
   pub bytes : List ℕ
   pub read : WasRead (limit_of command) input bytes
@@ -85,22 +86,22 @@ pub record WasAnswered (command : Command) (input : Span SourceEnd) (output : Sp
   pub took : Took output.before output.after (part text)
 
 -- All of the text was written.
-abbrev pub WasDone : Command → Span SourceEnd → Span SinkEnd → Type 0
+abbrev pub WasDone : ProgramCommand → Span SourceEnd → Span SinkEnd → Type 0
 WasDone command input output = WasAnswered command input output (λ text. text)
 
 -- A first part of the text was written, and the output's count of faults rose.
-abbrev pub WasDoneInPart : Command → Span SourceEnd → Span SinkEnd → Type 0
+abbrev pub WasDoneInPart : ProgramCommand → Span SourceEnd → Span SinkEnd → Type 0
 WasDoneInPart command input output =
     ((n : ℕ) × WasAnswered command input output (take n))
     × Rose output.before.faults output.after.faults
 
 -- what a command refuses bytes for
-abbrev pub IsRefusalOf : Command → List ℕ → Refusal → Type 0
+abbrev pub IsRefusalOf : ProgramCommand → List ℕ → InputRefusal → Type 0
 IsRefusalOf command bytes found = IsAnswer command bytes (Err found)
 
 -- The input gave one byte more than the limit; or it was read to its end, and the command answers
 -- it with this refusal.
-abbrev pub WasRefused : Command → Fault → Span SourceEnd → Type 0
+abbrev pub WasRefused : ProgramCommand → Fault → Span SourceEnd → Type 0
 WasRefused command fault.TooLong input = GaveTooMuch (limit_of command) input
 WasRefused command (fault.Refused found) input =
     (bytes : List ℕ) × WasRead (limit_of command) input bytes × IsRefusalOf command bytes found
@@ -108,7 +109,7 @@ WasRefused command other input = ⊥
 
 -- How a run ends whose input has this answer: Done, and the text was written, or WriteFault, where
 -- the output's count of faults rose; or Refused, and the notes tell the fault.
-abbrev pub EndsWith : Result (List ℕ) Refusal → Status → Span SinkEnd → Span SinkEnd → Type 0
+abbrev pub EndsWith : Result (List ℕ) InputRefusal → Status → Span SinkEnd → Span SinkEnd → Type 0
 EndsWith (Ok text) status output notes =
     ((status ≡ Done) × Took output.before output.after text)
     ⊎ ((status ≡ WriteFault) × Rose output.before.faults output.after.faults)

@@ -13,8 +13,8 @@ use Rattle.commands.specs.declared.status.Status.{Status}
 use Rattle.commands.specs.declared.status.Status.TheVariants as status
 use Rattle.commands.specs.declared.status.Fault.{Fault}
 use Rattle.commands.specs.declared.status.Fault.TheVariants as fault
-use Rattle.commands.specs.declared.status.Refusal.{Refusal}
-use Rattle.commands.specs.declared.status.Refusal.TheVariants as refusal
+use Rattle.commands.specs.declared.status.InputRefusal.{InputRefusal}
+use Rattle.commands.specs.declared.status.InputRefusal.TheVariants as refusal
 
 -- the end of a line, U+000A
 abbrev pub newline : List ℕ
@@ -41,7 +41,7 @@ status_of (fault.Refused found) = status.Refused
 status_of fault.Write = status.WriteFault
 
 -- the fault of a run over bytes that are refused, or for which memory is wanted
-abbrev pub stopped : Stop Refusal → Fault
+abbrev pub stopped : Stop InputRefusal → Fault
 stopped (stop.Fault found) = fault.Refused found
 stopped stop.Memory = fault.Memory
 

@@ -9,8 +9,8 @@ use Rattle.scene_file.specs.Reading.{IsSceneAt, IsSceneFaultAt}
 use Rattle.scene_file.specs.declared.scene.Scene.{Scene}
 use Rattle.scene_file.specs.declared.fault.SceneFault.{SceneFault}
 use Rattle.scene_file.specs.declared.fault.SceneFault.TheVariants.{Json}
-use Rattle.commands.specs.declared.status.Refusal.{Refusal}
-use Rattle.commands.specs.declared.status.Refusal.TheVariants as refusal
+use Rattle.commands.specs.declared.status.InputRefusal.{InputRefusal}
+use Rattle.commands.specs.declared.status.InputRefusal.TheVariants as refusal
 
 -- What stands behind an offset: white space alone, or behind white space a further byte, at this
 -- place.
@@ -39,7 +39,7 @@ pub record HasNoTextBehind (bytes : List ℕ) (fault : JsonFault) : Type 0 where
   pub faulty : IsFirstFault bytes start fault
 
 -- The first fault of an input that is to begin with a scene and a value behind it.
-abbrev pub IsFrontRefusal : List ℕ → Refusal → Type 0
+abbrev pub IsFrontRefusal : List ℕ → InputRefusal → Type 0
 IsFrontRefusal bytes found =
     ((fault : SceneFault) × (found ≡ refusal.Text 1 fault) × IsSceneFaultAt bytes 0 fault)
     ⊎ ((fault : JsonFault) × (found ≡ refusal.Text 2 (Json fault)) × HasNoTextBehind bytes fault)
@@ -47,7 +47,8 @@ IsFrontRefusal bytes found =
 -- The first fault of an input that is to be a scene and a text that is read so, which else has a
 -- fault: the input doesn't begin with a scene and a value; or the value has a fault; or behind it
 -- and white space a further byte stands.
-abbrev pub IsSecondRefusal : (List ℕ → Type 0) → (List ℕ → Refusal → Type 0) → List ℕ → Refusal
+abbrev pub IsSecondRefusal : (List ℕ → Type 0) → (List ℕ → InputRefusal → Type 0) → List ℕ
+    → InputRefusal
     → Type 0
 IsSecondRefusal IsRead IsFaulty bytes found =
     IsFrontRefusal bytes found

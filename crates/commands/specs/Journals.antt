@@ -9,8 +9,8 @@ use Rattle.scene_file.specs.Scenes.{state_text}
 use Rattle.scene_file.specs.declared.layout.Layout.TheVariants.{Compact}
 use Rattle.commands.specs.Boards.{IsSceneOfStored}
 use Rattle.commands.specs.Faults.{newline}
-use Rattle.commands.specs.declared.status.Refusal.{Refusal}
-use Rattle.commands.specs.declared.status.Refusal.TheVariants as refusal
+use Rattle.commands.specs.declared.status.InputRefusal.{InputRefusal}
+use Rattle.commands.specs.declared.status.InputRefusal.TheVariants as refusal
 use Rattle.commands.specs.declared.words.Form.{Form}
 use Rattle.commands.specs.declared.words.Form.TheVariants as form
 
@@ -27,7 +27,7 @@ pub record IsRecovered (form : Form) (bytes text : List ℕ) : Type 0 where
   pub told : IsToldAs form found.head found.elements text
 
 -- The first fault of an input that is to be a journal: its first faulty line has it.
-abbrev pub IsJournalRefusal : List ℕ → Refusal → Type 0
+abbrev pub IsJournalRefusal : List ℕ → InputRefusal → Type 0
 IsJournalRefusal bytes found =
     (number : ℕ) × (fault : LineFault) × (found ≡ refusal.Line number fault)
     × IsRecoveredAs bytes (Err (Line number fault))

@@ -19,7 +19,7 @@ use Rattle.commands.specs.Journals.{IsJournalRefusal}
 use Rattle.commands.specs.Serving.{Begun, Ends, room_of}
 use Rattle.commands.specs.declared.status.Fault.{Fault}
 use Rattle.commands.specs.declared.status.Fault.TheVariants as fault
-use Rattle.commands.specs.declared.status.Refusal.{Refusal}
+use Rattle.commands.specs.declared.status.InputRefusal.{InputRefusal}
 use Rattle.commands.specs.declared.status.Status.{Status}
 use Rattle.commands.specs.declared.status.Status.TheVariants as status
 use Rattle.commands.specs.declared.words.Begins.{Begins}
@@ -42,7 +42,7 @@ BeginsWith Journal bytes begun =
     × (begun ≡ record { head = found.head; stored = resumed found.elements })
 
 -- the first fault of bytes with which no room begins
-abbrev pub IsBeginsRefusal : Begins → List ℕ → Refusal → Type 0
+abbrev pub IsBeginsRefusal : Begins → List ℕ → InputRefusal → Type 0
 IsBeginsRefusal Scenes bytes found = IsRefusal bytes found
 IsBeginsRefusal Journal bytes found = IsJournalRefusal bytes found
 
@@ -127,5 +127,6 @@ abbrev pub KeepsInput : Keeping → List ℕ → Ends → Span SinkEnd → Statu
 KeepsInput keeping bytes ends notes result =
     ((begun : Begun) × BeginsWith keeping.begins bytes begun
     × ((end : KeepEnd) × WasKeptTo keeping end ends × (result ≡ kept_status end)))
-    ⊎ ((found : Refusal) × IsBeginsRefusal keeping.begins bytes found × (result ≡ status.Refused)
+    ⊎ ((found : InputRefusal) × IsBeginsRefusal keeping.begins bytes found
+        × (result ≡ status.Refused)
     × Noted (fault.Refused found) notes.before notes.after)

@@ -1,7 +1,6 @@
 pub mod Again
 pub mod Answers
 pub mod Boards
-pub mod Causes
 pub mod Closing
 pub mod Drills
 pub mod Ends
@@ -13,10 +12,9 @@ pub mod Keeping
 pub mod Members
 pub mod Pastes
 pub mod Pictures
-pub mod Readers
 pub mod Replays
 pub mod Services
 pub mod Serving
-pub mod SessionTexts
 pub mod Shelves
 pub mod Words
+pub mod inner

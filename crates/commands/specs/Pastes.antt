@@ -13,14 +13,14 @@ use Rattle.scene_file.specs.declared.layout.Layout.TheVariants.{Compact}
 use Rattle.scene_file.specs.declared.scene.Scene.{Scene}
 use Rattle.commands.specs.Boards.{heads_of, updates_of, IsBoardOf, IsSceneOfStored}
 use Rattle.commands.specs.Fronts.{HasFront, IsSecondRefusal}
-use Rattle.commands.specs.declared.status.Refusal.{Refusal}
-use Rattle.commands.specs.declared.status.Refusal.TheVariants as refusal
+use Rattle.commands.specs.declared.status.InputRefusal.{InputRefusal}
+use Rattle.commands.specs.declared.status.InputRefusal.TheVariants as refusal
 
 -- The text is that of a clip; it is none, and is refused so.
 abbrev pub IsClip : List ℕ → Type 0
 IsClip text = (clip : Clip) × IsClipOf text clip
 
-abbrev pub IsNoClip : List ℕ → Refusal → Type 0
+abbrev pub IsNoClip : List ℕ → InputRefusal → Type 0
 IsNoClip text found = (fault : ClipFault) × (found ≡ refusal.Clip fault) × IsClipFault text fault
 
 -- The input is a scene, a clip and white space.
@@ -72,7 +72,7 @@ pub record HasExisting (prefix bytes : List ℕ) (place : ℕ) : Type 0 where
 
 -- Why nothing is pasted: the first fault of the input, and where it has none the first copy whose
 -- id is stored.
-abbrev pub IsPasteRefusal : List ℕ → List ℕ → Refusal → Type 0
+abbrev pub IsPasteRefusal : List ℕ → List ℕ → InputRefusal → Type 0
 IsPasteRefusal prefix bytes found =
     IsSecondRefusal IsClip IsNoClip bytes found
     ⊎ ((place : ℕ) × (found ≡ refusal.Exists place) × HasExisting prefix bytes place)

@@ -18,7 +18,7 @@ use Rattle.commands.specs.Faults.{newline, status_of, Noted, IsNoted}
 use Rattle.commands.specs.Input.{HasScenes}
 use Rattle.commands.specs.declared.status.Fault.{Fault}
 use Rattle.commands.specs.declared.status.Fault.TheVariants as fault
-use Rattle.commands.specs.declared.status.Refusal.{Refusal}
+use Rattle.commands.specs.declared.status.InputRefusal.{InputRefusal}
 use Rattle.commands.specs.declared.status.Status.{Status}
 use Rattle.commands.specs.declared.status.Status.TheVariants as status
 use Rattle.commands.specs.declared.words.Service.{Service}
@@ -152,5 +152,5 @@ ServesInput service bytes ends notes result =
     ((scenes : List Scene) × HasScenes bytes scenes
     × (((end : ServeEnd) × WasServedTo service end ends × (result ≡ end_status end))
     ⊎ ((result ≡ status.WriteFault) × Rose ends.output.before.faults ends.output.after.faults)))
-    ⊎ ((found : Refusal) × IsRefusal bytes found × (result ≡ status.Refused)
+    ⊎ ((found : InputRefusal) × IsRefusal bytes found × (result ≡ status.Refused)
     × Noted (fault.Refused found) notes.before notes.after)

@@ -19,8 +19,8 @@ use Rattle.scene_file.specs.declared.fault.SceneFault.TheVariants.{Json}
 use Rattle.commands.specs.Faults.{newline}
 use Rattle.commands.specs.Fronts.{HasFront, IsSecondRefusal}
 use Rattle.commands.specs.Pastes.{IsExisting, IsPastedAs}
-use Rattle.commands.specs.declared.status.Refusal.{Refusal}
-use Rattle.commands.specs.declared.status.Refusal.TheVariants as refusal
+use Rattle.commands.specs.declared.status.InputRefusal.{InputRefusal}
+use Rattle.commands.specs.declared.status.InputRefusal.TheVariants as refusal
 use Rattle.commands.specs.declared.words.Insertion.{Insertion}
 
 -- The input is values with these compact texts, of which there is one at least, and then white
@@ -66,7 +66,7 @@ HasFaultyLibrary bytes number fault =
 
 -- The first fault of an input that is to be one library at least: the first text with a fault has
 -- it.
-abbrev pub IsShelfRefusal : List ℕ → Refusal → Type 0
+abbrev pub IsShelfRefusal : List ℕ → InputRefusal → Type 0
 IsShelfRefusal bytes found =
     ((number : ℕ) × (fault : JsonFault) × (found ≡ refusal.Text number (Json fault))
     × HasFaultyValue bytes number fault)
@@ -95,7 +95,7 @@ shelf_seen so_far = record {
 }
 
 -- what an input is refused for whose text with this number isn't read
-abbrev pub shelf_refusal_of : ℕ → Stopped LibFault → Refusal
+abbrev pub shelf_refusal_of : ℕ → Stopped LibFault → InputRefusal
 shelf_refusal_of number (Faulty fault) = refusal.Text number (Json fault)
 shelf_refusal_of number (Refused fault) = refusal.Library number fault
 shelf_refusal_of number (Extra place) = refusal.Extra place
@@ -104,7 +104,7 @@ shelf_refusal_of number (Extra place) = refusal.Extra place
 abbrev pub IsLibrary : List ℕ → Type 0
 IsLibrary text = (items : List Item) × IsLibraryOf text items
 
-abbrev pub IsNoLibrary : List ℕ → Refusal → Type 0
+abbrev pub IsNoLibrary : List ℕ → InputRefusal → Type 0
 IsNoLibrary text found =
     (fault : LibFault) × (found ≡ refusal.Library 2 fault) × IsLibFault text fault
 
@@ -146,7 +146,7 @@ pub record HasExistingOfItem (insertion : Insertion) (bytes : List ℕ) (place :
 
 -- Why nothing is inserted: the first fault of the input; where it has none, that the library has no
 -- such item; else the first copy whose id is stored.
-abbrev pub IsInsertRefusal : Insertion → List ℕ → Refusal → Type 0
+abbrev pub IsInsertRefusal : Insertion → List ℕ → InputRefusal → Type 0
 IsInsertRefusal insertion bytes found =
     IsSecondRefusal IsLibrary IsNoLibrary bytes found
     ⊎ (((found ≡ refusal.NoItem) × HasNoItem insertion.item bytes)

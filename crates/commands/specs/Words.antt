@@ -4,8 +4,8 @@ use Rattle.std.specs.Str.{is_utf8}
 use Rattle.scene_file.specs.declared.layout.Layout.{Layout}
 use Rattle.scene_file.specs.declared.layout.Layout.TheVariants.{Compact, Pretty}
 use Rattle.commands.specs.Services.{drill_of, keeping_of, number_within, service_of}
-use Rattle.commands.specs.declared.words.Command.{Command}
-use Rattle.commands.specs.declared.words.Command.TheVariants.{Restore, Merge, State, Pictures, Replay, Recover, Paste, Library, Insert}
+use Rattle.commands.specs.declared.words.ProgramCommand.{ProgramCommand}
+use Rattle.commands.specs.declared.words.ProgramCommand.TheVariants.{Restore, Merge, State, Pictures, Replay, Recover, Paste, Library, Insert}
 use Rattle.commands.specs.declared.words.Form.{Form}
 use Rattle.commands.specs.declared.words.Form.TheVariants as form
 use Rattle.commands.specs.declared.words.Request.{Request}
@@ -24,7 +24,7 @@ asked_layout (word ∷ []) = if bytes_eq word (codes "--pretty") then Some Prett
 asked_layout (word ∷ next ∷ more) = None
 
 -- a command that no word stands behind
-abbrev pub asked_alone : Command → List (List ℕ) → Option Command
+abbrev pub asked_alone : ProgramCommand → List (List ℕ) → Option ProgramCommand
 asked_alone command [] = Some command
 asked_alone command (word ∷ more) = None
 
@@ -41,19 +41,19 @@ is_name [] = false
 is_name (byte ∷ bytes) = is_utf8 (byte ∷ bytes)
 
 -- the paste that the words behind `paste` say: a prefix
-abbrev pub asked_paste : List (List ℕ) → Option Command
+abbrev pub asked_paste : List (List ℕ) → Option ProgramCommand
 asked_paste (prefix ∷ []) = if is_name prefix then Some (Paste prefix) else None
 asked_paste words = None
 
 -- the insertion that the words behind `insert` say: an item and a prefix
-abbrev pub asked_insert : List (List ℕ) → Option Command
+abbrev pub asked_insert : List (List ℕ) → Option ProgramCommand
 asked_insert (item ∷ prefix ∷ []) =
     if is_name item && is_name prefix then Some (Insert (record { item = item; prefix = prefix }))
     else None
 asked_insert words = None
 
 -- the command of this name with these words behind it, which takes no text from them
-abbrev pub asked_plain : List ℕ → List (List ℕ) → Option Command
+abbrev pub asked_plain : List ℕ → List (List ℕ) → Option ProgramCommand
 asked_plain word options =
     if bytes_eq word (codes "restore") then option_map Restore (asked_layout options)
     else if bytes_eq word (codes "merge") then option_map Merge (asked_layout options)
@@ -65,7 +65,7 @@ asked_plain word options =
     else None
 
 -- the command of this name with these words behind it. This project's own.
-abbrev pub asked_command : List ℕ → List (List ℕ) → Option Command
+abbrev pub asked_command : List ℕ → List (List ℕ) → Option ProgramCommand
 asked_command word options =
     if bytes_eq word (codes "paste") then asked_paste options
     else if bytes_eq word (codes "insert") then asked_insert options
@@ -120,7 +120,7 @@ asked (word ∷ options) =
     else option_map Answer (asked_command word options)
 
 -- The words that ask for each command. This project's own.
-abbrev pub words_of : Command → List (List ℕ)
+abbrev pub words_of : ProgramCommand → List (List ℕ)
 words_of (Restore Compact) = codes "restore" ∷ []
 words_of (Restore Pretty) = codes "restore" ∷ codes "--pretty" ∷ []
 words_of (Merge Compact) = codes "merge" ∷ []
@@ -135,7 +135,7 @@ words_of Library = codes "library" ∷ []
 words_of (Insert insertion) = codes "insert" ∷ insertion.item ∷ insertion.prefix ∷ []
 
 -- The texts that a command takes from its words may stand in them: each is UTF-8, and not empty.
-abbrev pub HasNames : Command → Type 0
+abbrev pub HasNames : ProgramCommand → Type 0
 HasNames (Paste prefix) = is_name prefix ≡ true
 HasNames (Insert insertion) = (is_name insertion.item ≡ true) × (is_name insertion.prefix ≡ true)
 HasNames other = Unit {0}

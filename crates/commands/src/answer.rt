@@ -15,7 +15,7 @@ use crate::pictures::picture_lines;
 use crate::recovering::{recovered, recovered_text};
 use crate::shelving::{inserted, shelved_text};
 use crate::status::Fault;
-use crate::words::Command;
+use crate::words::ProgramCommand;
 use board_base::Bytes;
 use board_ends::Source;
 use elem_store::Store;
@@ -28,7 +28,7 @@ use view::{into_shown, shown_elements};
 /// The text that the command answers the input with, which is read to its end.
 pub(crate) fn answer<S: Source>(
     alloc: Global,
-    command: Command,
+    command: ProgramCommand,
     input: &mut S,
 ) -> Result<Bytes, Fault>
     ensures text { IfOk result (λ text. (bytes : Items ℕ)
@@ -38,39 +38,39 @@ pub(crate) fn answer<S: Source>(
         (span (S.seen input.old) (S.seen input.new))) }
 {
     match command {
-        Command::Restore(layout) => {
+        ProgramCommand::Restore(layout) => {
             let scene = one_scene(alloc, input)?;
             Ok(restored_text(alloc, scene, layout)?)
         }
-        Command::Merge(layout) => {
+        ProgramCommand::Merge(layout) => {
             let (head, store) = some_board(alloc, input)?;
             Ok(shown_text(alloc, &head, store, layout)?)
         }
-        Command::State => {
+        ProgramCommand::State => {
             let (head, store) = some_board(alloc, input)?;
             Ok(stored_text(alloc, &head, &store)?)
         }
-        Command::Pictures => {
+        ProgramCommand::Pictures => {
             let (head, store) = some_board(alloc, input)?;
             Ok(pictures_text(alloc, &head, &store)?)
         }
-        Command::Replay => {
+        ProgramCommand::Replay => {
             let session = session(alloc, input)?;
             Ok(replayed_text(alloc, &session)?)
         }
-        Command::Recover(form) => {
+        ProgramCommand::Recover(form) => {
             let (head, store) = recovered(alloc, input)?;
             Ok(recovered_text(alloc, &head, store, form)?)
         }
-        Command::Paste(prefix) => {
+        ProgramCommand::Paste(prefix) => {
             let bytes = whole(alloc, input)?;
             Ok(pasted(alloc, bytes.as_slice(), &prefix)?)
         }
-        Command::Library => {
+        ProgramCommand::Library => {
             let shelf = some_shelf(alloc, input)?;
             Ok(shelved_text(alloc, &shelf)?)
         }
-        Command::Insert(insertion) => {
+        ProgramCommand::Insert(insertion) => {
             let bytes = whole(alloc, input)?;
             Ok(inserted(alloc, bytes.as_slice(), &insertion)?)
         }

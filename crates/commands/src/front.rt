@@ -7,9 +7,9 @@ ghost use Rattle.json_reader.specs.declared.fault.JsonFault.{JsonFault};
 ghost use Rattle.scene_file.specs.Reading.{IsSceneAt, IsSceneFaultAt};
 ghost use Rattle.scene_file.specs.declared.fault.SceneFault.{SceneFault};
 ghost use Rattle.commands.specs.Fronts.{HasFront, IsBehind, IsFrontRefusal};
-ghost use Rattle.commands.specs.declared.status.Refusal.{Refusal};
+ghost use Rattle.commands.specs.declared.status.InputRefusal.{InputRefusal};
 
-use crate::status::Refusal;
+use crate::status::InputRefusal;
 use board_base::Stop;
 use json_reader::scan;
 use json_text::{Raw, skip_space};
@@ -26,9 +26,9 @@ pub(crate) struct Front {
 }
 
 /// The scene that the bytes begin with, and the value behind it.
-pub(crate) fn read_front(alloc: Global, bytes: &[u8]) -> Result<Front, Stop<Refusal>>
+pub(crate) fn read_front(alloc: Global, bytes: &[u8]) -> Result<Front, Stop<InputRefusal>>
     ensures front { IfOk result (λ front. HasFront bytes.now front.scene front.text front.more) }
-    ensures refused { (why : Refusal) → result ≡ Err (Stop.Fault why)
+    ensures refused { (why : InputRefusal) → result ≡ Err (Stop.Fault why)
         → IsFrontRefusal bytes.now why }
 {
     let (scene, start) = first_scene(alloc, bytes)?;
@@ -41,32 +41,33 @@ pub(crate) fn read_front(alloc: Global, bytes: &[u8]) -> Result<Front, Stop<Refu
 }
 
 /// The scene that the bytes begin with, and the offset after it.
-fn first_scene(alloc: Global, bytes: &[u8]) -> Result<(Scene, usize), Stop<Refusal>>
+fn first_scene(alloc: Global, bytes: &[u8]) -> Result<(Scene, usize), Stop<InputRefusal>>
     ensures within { IfOk result (λ found. found.1 ≤ length bytes.now) }
     ensures scene { IfOk result (λ found. IsSceneAt bytes.now found.0 (drop found.1 bytes.now)) }
-    ensures refused { (why : Refusal) → result ≡ Err (Stop.Fault why)
-        → (fault : SceneFault) × (why ≡ Refusal.Text 1 fault) × IsSceneFaultAt bytes.now 0 fault }
+    ensures refused { (why : InputRefusal) → result ≡ Err (Stop.Fault why)
+        → (fault : SceneFault) × (why ≡ InputRefusal.Text 1 fault)
+            × IsSceneFaultAt bytes.now 0 fault }
 {
     match read_scene(alloc, bytes, 0) {
         Ok(found) => Ok(found),
-        Err(Stop::Fault(fault)) => Err(Stop::Fault(Refusal::Text(1, fault))),
+        Err(Stop::Fault(fault)) => Err(Stop::Fault(InputRefusal::Text(1, fault))),
         Err(Stop::Memory) => Err(Stop::Memory),
     }
 }
 
 /// The value that stands behind an offset as the second text, and the offset after it.
-fn value_behind(alloc: Global, bytes: &[u8], start: usize) -> Result<(Raw, usize), Stop<Refusal>>
+fn value_behind(alloc: Global, bytes: &[u8], start: usize) -> Result<(Raw, usize), Stop<InputRefusal>>
     requires { start ≤ length bytes.now }
     ensures within { IfOk result (λ found. found.1 ≤ length bytes.now) }
     ensures stands { IfOk result
         (λ found. Stands (drop start bytes.now) found.0 (drop found.1 bytes.now)) }
-    ensures refused { (why : Refusal) → result ≡ Err (Stop.Fault why)
-        → (fault : JsonFault) × (why ≡ Refusal.Text 2 (SceneFault.Json fault))
+    ensures refused { (why : InputRefusal) → result ≡ Err (Stop.Fault why)
+        → (fault : JsonFault) × (why ≡ InputRefusal.Text 2 (SceneFault.Json fault))
         × IsFirstFault bytes.now start fault }
 {
     match scan(alloc, bytes, start) {
         Ok(found) => Ok(found),
-        Err(Stop::Fault(fault)) => Err(Stop::Fault(Refusal::Text(2, SceneFault::Json(fault)))),
+        Err(Stop::Fault(fault)) => Err(Stop::Fault(InputRefusal::Text(2, SceneFault::Json(fault)))),
         Err(Stop::Memory) => Err(Stop::Memory),
     }
 }

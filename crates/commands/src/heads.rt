@@ -7,7 +7,7 @@ ghost use Rattle.json_text.specs.Members.{pairs};
 ghost use Rattle.frac_keys.specs.Keys.{bytes_less};
 ghost use Rattle.file_table.specs.Table.{AreLeastEntries, EntriesNest};
 ghost use Rattle.scene_file.specs.Heads.{Heading, IsJoinedHead, lesser_source};
-ghost use Rattle.commands.specs.Readers.{AreJoined};
+ghost use Rattle.commands.specs.inner.Readers.{AreJoined};
 
 use board_base::List;
 use file_table::Files;
@@ -26,7 +26,7 @@ pub(crate) struct Heads {
 }
 
 impl Model for Heads {
-    ghost use Rattle.commands.specs.Readers.{HeadsSoFar};
+    ghost use Rattle.commands.specs.inner.Readers.{HeadsSoFar};
 
     ghost Value = { HeadsSoFar };
 

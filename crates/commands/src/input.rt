@@ -12,12 +12,12 @@ ghost use Rattle.commands.specs.Answers.{IsOneRefusal, IsRefusal, IsSessionRefus
 ghost use Rattle.commands.specs.Boards.{IsBoardOf};
 ghost use Rattle.commands.specs.Ends.{span, limit, IsInputFault, IsNeverRefused, WasRead};
 ghost use Rattle.commands.specs.Input.{HasScenes};
-ghost use Rattle.commands.specs.Readers.{refusal_of};
-ghost use Rattle.commands.specs.SessionTexts.{session_refusal_of};
+ghost use Rattle.commands.specs.inner.Readers.{refusal_of};
+ghost use Rattle.commands.specs.inner.SessionTexts.{session_refusal_of};
 ghost use Rattle.commands.specs.Shelves.{HasTexts, IsShelfRefusal, shelf_refusal_of};
-ghost use Rattle.commands.specs.declared.status.Refusal.{Refusal};
+ghost use Rattle.commands.specs.declared.status.InputRefusal.{InputRefusal};
 
-use crate::status::{Fault, Refusal};
+use crate::status::{Fault, InputRefusal};
 use crate::taking::{Gathered, OneScene, OneSession, Shelved};
 use board_base::{Bytes, Stop};
 use board_ends::{ReadError, Source, read_all};
@@ -147,34 +147,34 @@ fn read_input<S: Source, R: Reader>(
 }
 
 /// What an input is refused for whose text with this number isn't read.
-fn refused(number: usize, stopped: Stopped<SceneFault>) -> Refusal
+fn refused(number: usize, stopped: Stopped<SceneFault>) -> InputRefusal
     ensures { result ≡ refusal_of number stopped }
 {
     match stopped {
-        Stopped::Faulty(fault) => Refusal::Text(number, SceneFault::Json(fault)),
-        Stopped::Refused(fault) => Refusal::Text(number, fault),
-        Stopped::Extra(place) => Refusal::Extra(place),
+        Stopped::Faulty(fault) => InputRefusal::Text(number, SceneFault::Json(fault)),
+        Stopped::Refused(fault) => InputRefusal::Text(number, fault),
+        Stopped::Extra(place) => InputRefusal::Extra(place),
     }
 }
 
 /// What an input that is to be libraries is refused for, whose text with this number isn't read.
-fn shelf_refused(number: usize, stopped: Stopped<LibFault>) -> Refusal
+fn shelf_refused(number: usize, stopped: Stopped<LibFault>) -> InputRefusal
     ensures { result ≡ shelf_refusal_of number stopped }
 {
     match stopped {
-        Stopped::Faulty(fault) => Refusal::Text(number, SceneFault::Json(fault)),
-        Stopped::Refused(fault) => Refusal::Library(number, fault),
-        Stopped::Extra(place) => Refusal::Extra(place),
+        Stopped::Faulty(fault) => InputRefusal::Text(number, SceneFault::Json(fault)),
+        Stopped::Refused(fault) => InputRefusal::Library(number, fault),
+        Stopped::Extra(place) => InputRefusal::Extra(place),
     }
 }
 
 /// What an input that is to be a session is refused for, whose text with this number isn't read.
-fn session_refused(number: u64, stopped: Stopped<TextFault>) -> Refusal
+fn session_refused(number: u64, stopped: Stopped<TextFault>) -> InputRefusal
     ensures { result ≡ session_refusal_of number stopped }
 {
     match stopped {
-        Stopped::Faulty(fault) => Refusal::Event(number, TextFault::Json(fault)),
-        Stopped::Refused(fault) => Refusal::Event(number, fault),
-        Stopped::Extra(_) => Refusal::TooMany,
+        Stopped::Faulty(fault) => InputRefusal::Event(number, TextFault::Json(fault)),
+        Stopped::Refused(fault) => InputRefusal::Event(number, fault),
+        Stopped::Extra(_) => InputRefusal::TooMany,
     }
 }

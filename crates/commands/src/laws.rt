@@ -14,23 +14,23 @@ ghost use Rattle.commands.specs.Faults.{newline};
 ghost use Rattle.commands.specs.Input.{HasScenes};
 ghost use Rattle.commands.specs.Services.{IsDrillWithinLimits};
 ghost use Rattle.commands.specs.Words.{asked, words_of, HasNames};
-ghost use Rattle.commands.specs.declared.status.Refusal.{Refusal};
-ghost use Rattle.commands.specs.declared.words.Command.{Command};
+ghost use Rattle.commands.specs.declared.status.InputRefusal.{InputRefusal};
+ghost use Rattle.commands.specs.declared.words.ProgramCommand.{ProgramCommand};
 ghost use Rattle.commands.specs.declared.words.Drill.{Drill};
 ghost use Rattle.commands.specs.declared.words.Request.{Request};
 
 /// A command is asked for by its words, where these may stand for the texts that it has, and by no
 /// others.
 pub fn words_ask()
-    ensures { (command : Command) (words : List (List ℕ))
+    ensures { (command : ProgramCommand) (words : List (List ℕ))
         → (asked words ≡ Some (Request.Answer command))
         ↔ ((words ≡ words_of command) × HasNames command) }
 {}
 
 /// Each command that is asked for has an answer to each input, whatever its bytes.
 pub fn answer_exists()
-    ensures { (command : Command) (bytes : List ℕ) → HasNames command
-        → (answer : Result (List ℕ) Refusal) × IsAnswer command bytes answer }
+    ensures { (command : ProgramCommand) (bytes : List ℕ) → HasNames command
+        → (answer : Result (List ℕ) InputRefusal) × IsAnswer command bytes answer }
 {
     room_msg::laws::reading_exists();
     room_disk::laws::recovered_is_whole();
@@ -38,7 +38,8 @@ pub fn answer_exists()
 
 /// An input has one answer alone.
 pub fn answer_is_unique()
-    ensures { (command : Command) (bytes : List ℕ) (answer other : Result (List ℕ) Refusal)
+    ensures { (command : ProgramCommand) (bytes : List ℕ)
+        (answer other : Result (List ℕ) InputRefusal)
         → IsAnswer command bytes answer → IsAnswer command bytes other → answer ≡ other }
 {}
 
@@ -47,7 +48,8 @@ pub fn merge_is_of_the_best()
     ensures { (layout : Layout) (bytes text : List ℕ) (scenes : List Scene) (head : Heading)
         (chosen : List ElementValue)
         → HasScenes bytes scenes → IsJoinedHead (heads_of scenes) head
-        → AreBest (updates_of scenes) chosen → IsAnswer (Command.Merge layout) bytes (Ok text)
+        → AreBest (updates_of scenes) chosen
+            → IsAnswer (ProgramCommand.Merge layout) bytes (Ok text)
         → (written : List ℕ) × IsSceneText layout head (shown_of chosen) written
         × (text ≡ written ++ newline) }
 {}

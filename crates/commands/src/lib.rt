@@ -22,6 +22,6 @@ mod taking;
 mod words;
 
 pub use running::board;
-pub use status::{Fault, Refusal, Status};
+pub use status::{Fault, InputRefusal, Status};
 pub use sure::board_surely;
-pub use words::{Begins, Command, Drill, Form, Insertion, Keeping, Request, Service};
+pub use words::{Begins, ProgramCommand, Drill, Form, Insertion, Keeping, Request, Service};

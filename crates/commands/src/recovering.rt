@@ -6,7 +6,7 @@ ghost use Rattle.commands.specs.Ends.{span, IsInputFault, WasRead};
 ghost use Rattle.commands.specs.Journals.{IsJournalRefusal, IsToldAs};
 
 use crate::answer::{ended, shown_text};
-use crate::status::{Fault, Refusal};
+use crate::status::{Fault, InputRefusal};
 use crate::words::Form;
 use board_base::{Bytes, Stop};
 use board_ends::Source;
@@ -28,7 +28,7 @@ pub(crate) fn recovered<S: Source>(alloc: Global, input: &mut S) -> Result<(Head
         Ok(found) => Ok(found),
         Err(Stop::Fault(RecoverFault::Failed)) => Err(Fault::Read),
         Err(Stop::Fault(RecoverFault::Faulty(KeepFault::Line(number, fault)))) => {
-            Err(Fault::Refused(Refusal::Line(number, fault)))
+            Err(Fault::Refused(InputRefusal::Line(number, fault)))
         }
         Err(Stop::Memory) => Err(Fault::Memory),
     }

@@ -4,7 +4,7 @@ ghost use Rattle.std.specs.Prelude.{◌≡◌, ◌≢◌, ◌↔◌, ◌⊎◌, 
 ghost use Rattle.board_ends.specs.Counts.{Rose};
 ghost use Rattle.commands.specs.Again.{RestoresOnce, RestoresMerges, StatesStandFor};
 ghost use Rattle.commands.specs.Answers.{IsAnswer, Converges};
-ghost use Rattle.commands.specs.Causes.{HasCause};
+ghost use Rattle.commands.specs.inner.Causes.{HasCause};
 ghost use Rattle.commands.specs.Closing.{IsServedToClose};
 ghost use Rattle.commands.specs.Drills.{DrillsAgree, EndsDrilling};
 ghost use Rattle.commands.specs.Ends.{span, limit, limit_of, EndsWith, GaveWithin, GaveTooMuch, HasLeft, WasDone, WasDoneInPart, WasRefused};
@@ -17,8 +17,8 @@ ghost use Rattle.commands.specs.Serving.{ends, end_status, EndsServing, ServesIn
 ghost use Rattle.commands.specs.Words.{asked, HasNames};
 ghost use Rattle.room_core.specs.declared.limits.ServeEnd.{ServeEnd};
 ghost use Rattle.commands.specs.declared.status.Fault.{Fault};
-ghost use Rattle.commands.specs.declared.status.Refusal.{Refusal};
-ghost use Rattle.commands.specs.declared.words.Command.{Command};
+ghost use Rattle.commands.specs.declared.status.InputRefusal.{InputRefusal};
+ghost use Rattle.commands.specs.declared.words.ProgramCommand.{ProgramCommand};
 ghost use Rattle.commands.specs.declared.words.Drill.{Drill};
 ghost use Rattle.commands.specs.declared.words.Keeping.{Keeping};
 ghost use Rattle.commands.specs.declared.words.Request.{Request};
@@ -31,7 +31,7 @@ use crate::keeping::{keep, noted_keep_end};
 use crate::serving::{noted_end, serve};
 use crate::status::{Fault, Status};
 use crate::words;
-use crate::words::{Command, Drill, Keeping, Request, Service};
+use crate::words::{ProgramCommand, Drill, Keeping, Request, Service};
 use board_base::Bytes;
 use board_ends::{Failed, Journal, Links, Sink, Source, write_all};
 use std::alloc::{AllocError, Global};
@@ -55,24 +55,26 @@ pub fn board<S: Source, K: Journal, N: Sink, L: Links>(
 
     // A command that answers an input. Done: the input, read to its end, is answered with a text,
     // and that is written.
-    ensures done { (command : Command) → asked words.now ≡ Some (Request.Answer command)
+    ensures done { (command : ProgramCommand) → asked words.now ≡ Some (Request.Answer command)
         → result ≡ Status.Done
         → WasDone command (span (S.seen input.old) (S.seen input.new))
         (span (K.seen output.old) (K.seen output.new)) }
 
     // Refused: the input is too long, or answered with a fault, and the notes tell it.
-    ensures refused { (command : Command) → asked words.now ≡ Some (Request.Answer command)
+    ensures refused { (command : ProgramCommand) → asked words.now ≡ Some (Request.Answer command)
         → result ≡ Status.Refused → (fault : Fault)
         × WasRefused command fault (span (S.seen input.old) (S.seen input.new))
         × Noted fault (N.seen notes.old) (N.seen notes.new) }
 
     // ReadFault and WriteFault: the count of faults rose; what was read was within the limit, and a
     // first part was written.
-    ensures read_fault { (command : Command) → asked words.now ≡ Some (Request.Answer command)
+    ensures read_fault { (command : ProgramCommand)
+        → asked words.now ≡ Some (Request.Answer command)
         → result ≡ Status.ReadFault
         → Rose (S.seen input.old).faults (S.seen input.new).faults
         × GaveWithin (limit_of command) (span (S.seen input.old) (S.seen input.new)) }
-    ensures write_fault { (command : Command) → asked words.now ≡ Some (Request.Answer command)
+    ensures write_fault { (command : ProgramCommand)
+        → asked words.now ≡ Some (Request.Answer command)
         → result ≡ Status.WriteFault
         → WasDoneInPart command (span (S.seen input.old) (S.seen input.new))
         (span (K.seen output.old) (K.seen output.new)) }
@@ -80,31 +82,33 @@ pub fn board<S: Source, K: Journal, N: Sink, L: Links>(
     // Where the input tells its bytes and doesn't fail: Done with the one text that the command
     // answers these bytes with, unless the output fails, or Refused with the one fault; or memory
     // is wanted.
-    ensures complete { (command : Command) (bytes : List ℕ)
+    ensures complete { (command : ProgramCommand) (bytes : List ℕ)
         → asked words.now ≡ Some (Request.Answer command)
         → HasLeft (limit_of command) (S.seen input.old) bytes
         → ¬ Rose (S.seen input.old).faults (S.seen input.new).faults
-        → (result ≡ Status.Memory) ⊎ ((answer : Result (List ℕ) Refusal)
+        → (result ≡ Status.Memory) ⊎ ((answer : Result (List ℕ) InputRefusal)
         × IsAnswer command bytes answer
         × EndsWith answer result (span (K.seen output.old) (K.seen output.new))
         (span (N.seen notes.old) (N.seen notes.new))) }
-    ensures too_long { (command : Command) → asked words.now ≡ Some (Request.Answer command)
+    ensures too_long { (command : ProgramCommand) → asked words.now ≡ Some (Request.Answer command)
         → IsSome (S.seen input.old).left
         → GaveTooMuch (limit_of command) (span (S.seen input.old) (S.seen input.new))
         → (result ≡ Status.Memory)
         ⊎ ((result ≡ Status.Refused) × Noted Fault.TooLong (N.seen notes.old) (N.seen notes.new)) }
 
     // What stays, and what the notes gain.
-    ensures output_kept { (command : Command) → asked words.now ≡ Some (Request.Answer command)
+    ensures output_kept { (command : ProgramCommand)
+        → asked words.now ≡ Some (Request.Answer command)
         → result ≢ Status.Done → result ≢ Status.WriteFault → output.new ≡ output.old }
     ensures notes_kept { (result ≡ Status.Done) ⊎ (result ≡ Status.Idle) → notes.new ≡ notes.old }
-    ensures noted { (command : Command) → asked words.now ≡ Some (Request.Answer command)
+    ensures noted { (command : ProgramCommand) → asked words.now ≡ Some (Request.Answer command)
         → result ≢ Status.Done
         → (fault : Fault) × (status_of fault ≡ result)
         × Noted fault (N.seen notes.old) (N.seen notes.new) }
-    ensures links_kept { (command : Command) → asked words.now ≡ Some (Request.Answer command)
+    ensures links_kept { (command : ProgramCommand)
+        → asked words.now ≡ Some (Request.Answer command)
         → links.new ≡ links.old }
-    ensures unlinked { (command : Command) → asked words.now ≡ Some (Request.Answer command)
+    ensures unlinked { (command : ProgramCommand) → asked words.now ≡ Some (Request.Answer command)
         → (result ≢ Status.LinkFault) × (result ≢ Status.Idle) }
 
     // A room that is served: each end by its cause, and what was read, sent and written by then.
@@ -209,7 +213,7 @@ pub fn board<S: Source, K: Journal, N: Sink, L: Links>(
 
     // A replay that is done wrote the report of a session of which all of these laws hold, at its
     // end and after each event.
-    ensures laws_of_a_replay { asked words.now ≡ Some (Request.Answer Command.Replay)
+    ensures laws_of_a_replay { asked words.now ≡ Some (Request.Answer ProgramCommand.Replay)
         → result ≡ Status.Done
         → WroteLawfulReport (span (S.seen input.old) (S.seen input.new))
         (span (K.seen output.old) (K.seen output.new)) }
@@ -257,7 +261,7 @@ fn request(alloc: Global, words: &[Bytes]) -> Result<Request, Fault>
 /// Answers the input with a text, which is written, or notes why not.
 fn answer_run<S: Source, K: Sink, N: Sink>(
     alloc: Global,
-    command: Command,
+    command: ProgramCommand,
     input: &mut S,
     output: &mut K,
     notes: &mut N,
@@ -277,7 +281,7 @@ fn answer_run<S: Source, K: Sink, N: Sink>(
         (span (K.seen output.old) (K.seen output.new)) }
     ensures complete { (bytes : List ℕ) → HasLeft (limit_of command) (S.seen input.old) bytes
         → ¬ Rose (S.seen input.old).faults (S.seen input.new).faults
-        → (result ≡ Status.Memory) ⊎ ((answer : Result (List ℕ) Refusal)
+        → (result ≡ Status.Memory) ⊎ ((answer : Result (List ℕ) InputRefusal)
         × IsAnswer command bytes answer
         × EndsWith answer result (span (K.seen output.old) (K.seen output.new))
         (span (N.seen notes.old) (N.seen notes.new))) }
@@ -387,7 +391,7 @@ fn keep_run<S: Source, K: Journal, N: Sink, L: Links>(
 /// Answers the input with a text, and writes that.
 fn run<S: Source, K: Sink>(
     alloc: Global,
-    command: Command,
+    command: ProgramCommand,
     input: &mut S,
     output: &mut K,
 ) -> Result<(), Fault>

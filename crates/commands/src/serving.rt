@@ -13,11 +13,11 @@ ghost use Rattle.commands.specs.Services.{IsService};
 ghost use Rattle.commands.specs.Serving.{ends, end_line, end_status, HasServingCause, ListensOn, WasHeld, WasServedTo};
 ghost use Rattle.commands.specs.Faults.{IsNoted};
 ghost use Rattle.commands.specs.declared.status.Fault.{Fault};
-ghost use Rattle.commands.specs.declared.status.Refusal.{Refusal};
+ghost use Rattle.commands.specs.declared.status.InputRefusal.{InputRefusal};
 
 use crate::answer::ended;
 use crate::input::some_board;
-use crate::status::{Fault, Refusal, Status};
+use crate::status::{Fault, InputRefusal, Status};
 use crate::words::Service;
 use board_base::{Bytes, Piece};
 use board_ends::{Failed, LinkError, Links, Sink, Source, write_all, write_pieces};

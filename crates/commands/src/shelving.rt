@@ -9,11 +9,11 @@ ghost use Rattle.commands.specs.Boards.{IsBoardOf};
 ghost use Rattle.commands.specs.Faults.{newline};
 ghost use Rattle.commands.specs.Fronts.{IsSecondRefusal};
 ghost use Rattle.commands.specs.Shelves.{HasSceneAndLibrary, IsInserted, IsInsertRefusal, IsLibrary, IsNoLibrary};
-ghost use Rattle.commands.specs.declared.status.Refusal.{Refusal};
+ghost use Rattle.commands.specs.declared.status.InputRefusal.{InputRefusal};
 
 use crate::answer::{board_of, ended, shown_text};
 use crate::front::read_front;
-use crate::status::Refusal;
+use crate::status::InputRefusal;
 use crate::words::Insertion;
 use board_base::{Bytes, List, Stop};
 use json_text::Raw;
@@ -36,9 +36,9 @@ pub(crate) fn inserted(
     alloc: Global,
     bytes: &[u8],
     insertion: &Insertion,
-) -> Result<Bytes, Stop<Refusal>>
+) -> Result<Bytes, Stop<InputRefusal>>
     ensures inserted { IfOk result (IsInserted insertion.now bytes.now) }
-    ensures refused { (why : Refusal) → result ≡ Err (Stop.Fault why)
+    ensures refused { (why : InputRefusal) → result ≡ Err (Stop.Fault why)
         → IsInsertRefusal insertion.now bytes.now why }
 {
     let (scene, items) = scene_and_library(alloc, bytes)?;
@@ -53,35 +53,35 @@ pub(crate) fn inserted(
         &insertion.prefix,
     ) {
         Ok(()) => Ok(shown_text(alloc, &head, store, Layout::Compact)?),
-        Err(Stop::Fault(InsertFault::NoItem)) => Err(Stop::Fault(Refusal::NoItem)),
-        Err(Stop::Fault(InsertFault::Exists(place))) => Err(Stop::Fault(Refusal::Exists(place))),
+        Err(Stop::Fault(InsertFault::NoItem)) => Err(Stop::Fault(InputRefusal::NoItem)),
+        Err(Stop::Fault(InsertFault::Exists(place))) => Err(Stop::Fault(InputRefusal::Exists(place))),
         Err(Stop::Memory) => Err(Stop::Memory),
     }
 }
 
 /// The scene and the items of the library that the bytes are.
-fn scene_and_library(alloc: Global, bytes: &[u8]) -> Result<(Scene, List<Item>), Stop<Refusal>>
+fn scene_and_library(alloc: Global, bytes: &[u8]) -> Result<(Scene, List<Item>), Stop<InputRefusal>>
     ensures found { IfOk result (λ found. HasSceneAndLibrary bytes.now found.0 found.1) }
-    ensures refused { (why : Refusal) → result ≡ Err (Stop.Fault why)
+    ensures refused { (why : InputRefusal) → result ≡ Err (Stop.Fault why)
         → IsSecondRefusal IsLibrary IsNoLibrary bytes.now why }
 {
     let front = read_front(alloc, bytes)?;
     let items = items_of(alloc, &front.text)?;
     match front.more {
-        Some(at) => Err(Stop::Fault(Refusal::Extra(at))),
+        Some(at) => Err(Stop::Fault(InputRefusal::Extra(at))),
         None => Ok((front.scene, items)),
     }
 }
 
 /// The items of the library that a text is.
-fn items_of(alloc: Global, text: &Raw) -> Result<List<Item>, Stop<Refusal>>
+fn items_of(alloc: Global, text: &Raw) -> Result<List<Item>, Stop<InputRefusal>>
     ensures items { IfOk result (IsLibraryOf text.now) }
-    ensures refused { (why : Refusal) → result ≡ Err (Stop.Fault why)
+    ensures refused { (why : InputRefusal) → result ≡ Err (Stop.Fault why)
         → IsNoLibrary text.now why }
 {
     match read_library(alloc, text) {
         Ok(items) => Ok(items),
-        Err(Stop::Fault(fault)) => Err(Stop::Fault(Refusal::Library(2, fault))),
+        Err(Stop::Fault(fault)) => Err(Stop::Fault(InputRefusal::Library(2, fault))),
         Err(Stop::Memory) => Err(Stop::Memory),
     }
 }

@@ -5,7 +5,7 @@ ghost use Rattle.board_base.specs.Pieces.{line_text, piece_text};
 ghost use Rattle.commands.specs.Faults.{code_of, newline, status_of, line_of, text_line, Noted};
 ghost use Rattle.library.specs.Faults.{item_fault_words};
 ghost use Rattle.commands.specs.declared.status.Fault.{Fault};
-ghost use Rattle.commands.specs.declared.status.Refusal.{Refusal};
+ghost use Rattle.commands.specs.declared.status.InputRefusal.{InputRefusal};
 
 use board_base::{Piece, Stop};
 use board_ends::{Sink, write_pieces};
@@ -60,7 +60,7 @@ impl Status {
 
 /// Why an input is refused that was read to its end.
 #[derive(Clone, Copy, Debug, PartialEq, Eq)]
-pub enum Refusal {
+pub enum InputRefusal {
     /// The text with this number, counted from 1, has this fault.
     Text(usize, SceneFault),
     /// One scene was asked for, and behind it a further text begins at this byte.
@@ -94,7 +94,7 @@ pub enum Fault {
     /// The input has more bytes than the limit.
     TooLong,
     /// The input was read and is refused.
-    Refused(Refusal),
+    Refused(InputRefusal),
     /// The output could not be written.
     Write,
 }
@@ -110,13 +110,13 @@ impl From<AllocError> for Fault {
     }
 }
 
-impl From<Stop<Refusal>> for Fault {
+impl From<Stop<InputRefusal>> for Fault {
     ghost use Rattle.std.specs.Prelude.{◌≡◌};
     ghost use Rattle.commands.specs.Faults.{stopped};
 
     ghost from_gives = { λ stop fault. fault ≡ stopped stop };
 
-    fn from(stop: Stop<Refusal>) -> Fault {
+    fn from(stop: Stop<InputRefusal>) -> Fault {
         match stop {
             Stop::Fault(why) => Fault::Refused(why),
             Stop::Memory => Fault::Memory,
@@ -159,7 +159,7 @@ impl Fault {
             ),
             Fault::Read => line("board: read fault\n"),
             Fault::TooLong => line("board: input is longer than 67108864 bytes\n"),
-            Fault::Refused(Refusal::Text(number, found)) => {
+            Fault::Refused(InputRefusal::Text(number, found)) => {
                 let [first, second, third, fourth] = found.pieces();
                 [
                     Piece::Words("board: text "),
@@ -175,20 +175,20 @@ impl Fault {
                     NONE,
                 ]
             }
-            Fault::Refused(Refusal::Event(number, found)) => event_line(number, found),
-            Fault::Refused(Refusal::TooMany) => line("board: more than 250000 events\n"),
-            Fault::Refused(Refusal::Line(number, found)) => {
+            Fault::Refused(InputRefusal::Event(number, found)) => event_line(number, found),
+            Fault::Refused(InputRefusal::TooMany) => line("board: more than 250000 events\n"),
+            Fault::Refused(InputRefusal::Line(number, found)) => {
                 let [first, second, third, fourth] = found.pieces();
                 text_line(number, ": ", first, second, third, fourth)
             }
-            Fault::Refused(Refusal::Clip(found)) => {
+            Fault::Refused(InputRefusal::Clip(found)) => {
                 let [first, second, third, fourth] = found.pieces();
                 text_line(2, ": ", first, second, third, fourth)
             }
-            Fault::Refused(Refusal::Library(number, found)) => library_line(number, found),
-            Fault::Refused(Refusal::NoItem) => text_line(2, ": no item", NONE, NONE, NONE, NONE),
-            Fault::Refused(Refusal::Exists(place)) => exists_line(place),
-            Fault::Refused(Refusal::Extra(at)) => [
+            Fault::Refused(InputRefusal::Library(number, found)) => library_line(number, found),
+            Fault::Refused(InputRefusal::NoItem) => text_line(2, ": no item", NONE, NONE, NONE, NONE),
+            Fault::Refused(InputRefusal::Exists(place)) => exists_line(place),
+            Fault::Refused(InputRefusal::Extra(at)) => [
                 Piece::Words("board: extra text at byte "),
                 Piece::Number(at as u64),
                 Piece::Words("\n"),
@@ -208,7 +208,7 @@ impl Fault {
 
 /// The line of a fault of a session's text.
 fn event_line(number: u64, found: TextFault) -> [Piece; 11]
-    ensures { line_text result ≡ line_of (Fault.Refused (Refusal.Event number found)) }
+    ensures { line_text result ≡ line_of (Fault.Refused (InputRefusal.Event number found)) }
 {
     match found {
         TextFault::Json(fault) => {
@@ -247,7 +247,7 @@ fn event_line(number: u64, found: TextFault) -> [Piece; 11]
 
 /// The line on the element at this place of the second text, whose copy's id is stored.
 fn exists_line(place: u64) -> [Piece; 11]
-    ensures { line_text result ≡ line_of (Fault.Refused (Refusal.Exists place)) }
+    ensures { line_text result ≡ line_of (Fault.Refused (InputRefusal.Exists place)) }
 {
     let place = Piece::Number(place);
     text_line(2, ": element ", place, Piece::Words(": exists"), NONE, NONE)
@@ -255,7 +255,7 @@ fn exists_line(place: u64) -> [Piece; 11]
 
 /// The line on the library text with this number.
 fn library_line(number: usize, found: LibFault) -> [Piece; 11]
-    ensures { line_text result ≡ line_of (Fault.Refused (Refusal.Library number found)) }
+    ensures { line_text result ≡ line_of (Fault.Refused (InputRefusal.Library number found)) }
 {
     let number = number as u64;
     match found {

@@ -3,9 +3,9 @@
 ghost use Rattle.std.specs.Prelude.{◌≡◌, ◌+◌, ◌++◌, ◌∷◌, [], Option, List as Items, IfOk, OnOk};
 ghost use Rattle.library.specs.Best.{AreBest};
 ghost use Rattle.library.specs.declared.item.Item.{Item as ItemValue};
-ghost use Rattle.commands.specs.Readers.{SayBoard, board_seen, one_seen};
+ghost use Rattle.commands.specs.inner.Readers.{SayBoard, board_seen, one_seen};
 ghost use Rattle.commands.specs.Shelves.{SayShelf, shelf_seen};
-ghost use Rattle.commands.specs.SessionTexts.{session_seen};
+ghost use Rattle.commands.specs.inner.SessionTexts.{session_seen};
 
 use crate::heads::Heads;
 use board_base::{List, Stop};
@@ -29,7 +29,7 @@ pub(crate) struct Gathered {
 
 impl Model for Gathered {
     ghost use Rattle.std.specs.Prelude.{◌≤◌};
-    ghost use Rattle.commands.specs.Readers.{BoardSoFar};
+    ghost use Rattle.commands.specs.inner.Readers.{BoardSoFar};
 
     ghost Value = { BoardSoFar };
 

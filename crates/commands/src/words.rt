@@ -29,7 +29,7 @@ pub enum Form {
 
 /// A command that answers an input with a text.
 #[derive(Drop)]
-pub enum Command {
+pub enum ProgramCommand {
     /// To restore one scene, in this layout.
     Restore(Layout),
     /// To merge scenes, in this layout.
@@ -104,7 +104,7 @@ pub struct Drill {
 #[derive(Drop)]
 pub enum Request {
     /// To answer an input with a text.
-    Answer(Command),
+    Answer(ProgramCommand),
     /// To run a generated session, and tell in short what came of it.
     Drill(Drill),
     /// To serve a room that begins with the scenes of an input.
@@ -135,7 +135,7 @@ fn asked_command(
     alloc: Global,
     word: &Bytes,
     options: &[Bytes],
-) -> Result<Option<Command>, AllocError>
+) -> Result<Option<ProgramCommand>, AllocError>
     ensures found { IfOk result (λ found. found ≡ asked_command word.now options.now) }
     ensures memory { OnErr result (IsSome (asked_command word.now options.now)) }
 {
@@ -149,24 +149,24 @@ fn asked_command(
 }
 
 /// The command of this name with these words behind it, which takes no text from them.
-fn asked_plain(word: &Bytes, options: &[Bytes]) -> Option<Command>
+fn asked_plain(word: &Bytes, options: &[Bytes]) -> Option<ProgramCommand>
     ensures { result ≡ asked_plain word.now options.now }
 {
     let word = word.as_slice();
     if word == b"restore".as_slice() {
-        asked_layout(options).map(Command::Restore)
+        asked_layout(options).map(ProgramCommand::Restore)
     } else if word == b"merge".as_slice() {
-        asked_layout(options).map(Command::Merge)
+        asked_layout(options).map(ProgramCommand::Merge)
     } else if word == b"state".as_slice() {
-        asked_alone(Command::State, options)
+        asked_alone(ProgramCommand::State, options)
     } else if word == b"pictures".as_slice() {
-        asked_alone(Command::Pictures, options)
+        asked_alone(ProgramCommand::Pictures, options)
     } else if word == b"replay".as_slice() {
-        asked_alone(Command::Replay, options)
+        asked_alone(ProgramCommand::Replay, options)
     } else if word == b"recover".as_slice() {
-        asked_form(options).map(Command::Recover)
+        asked_form(options).map(ProgramCommand::Recover)
     } else if word == b"library".as_slice() {
-        asked_alone(Command::Library, options)
+        asked_alone(ProgramCommand::Library, options)
     } else {
         None
     }
@@ -185,24 +185,24 @@ fn asked_form(options: &[Bytes]) -> Option<Form>
 }
 
 /// The paste that these words say: PREFIX. Memory is wanted only where they say one.
-fn asked_paste(alloc: Global, options: &[Bytes]) -> Result<Option<Command>, AllocError>
+fn asked_paste(alloc: Global, options: &[Bytes]) -> Result<Option<ProgramCommand>, AllocError>
     ensures found { IfOk result (λ found. found ≡ asked_paste options.now) }
     ensures memory { OnErr result (IsSome (asked_paste options.now)) }
 {
     match options {
-        [prefix] if is_name(prefix) => Ok(Some(Command::Paste(text_of(alloc, prefix)?))),
+        [prefix] if is_name(prefix) => Ok(Some(ProgramCommand::Paste(text_of(alloc, prefix)?))),
         _ => Ok(None),
     }
 }
 
 /// The insertion that these words say: ITEM and PREFIX. Memory is wanted only where they say one.
-fn asked_insert(alloc: Global, options: &[Bytes]) -> Result<Option<Command>, AllocError>
+fn asked_insert(alloc: Global, options: &[Bytes]) -> Result<Option<ProgramCommand>, AllocError>
     ensures found { IfOk result (λ found. found ≡ asked_insert options.now) }
     ensures memory { OnErr result (IsSome (asked_insert options.now)) }
 {
     match options {
         [item, prefix] if is_name(item) && is_name(prefix) => {
-            Ok(Some(Command::Insert(insertion_of(alloc, item, prefix)?)))
+            Ok(Some(ProgramCommand::Insert(insertion_of(alloc, item, prefix)?)))
         }
         _ => Ok(None),
     }
@@ -365,7 +365,7 @@ fn number_within(least: u64, most: u64, word: &Bytes) -> Option<u64>
 }
 
 /// The command, which no word is to stand behind.
-fn asked_alone(command: Command, options: &[Bytes]) -> Option<Command>
+fn asked_alone(command: ProgramCommand, options: &[Bytes]) -> Option<ProgramCommand>
     ensures { result ≡ asked_alone command options.now }
 {
     match options {

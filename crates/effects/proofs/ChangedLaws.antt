@@ -29,7 +29,7 @@ use Rattle.effects.specs.Effects.{effect}
 use Rattle.effects.specs.Naming.{is_among}
 use Rattle.view.specs.Shown.{is_live}
 use Rattle.effects.specs.Placing.{keys_at}
-use Rattle.effects.specs.Prepared.{made_by, Prepares}
+use Rattle.effects.specs.inner.Prepared.{made_by, Prepares}
 use Rattle.effects.specs.Refusals.{existing, refusal_of}
 use Rattle.effects.proofs.CreatedLaws.{AreApart, absent, created-unknown, distinct-one}
 use Rattle.effects.proofs.OutcomeLaws.{mapped-cases, mapped-rises}

@@ -18,7 +18,7 @@ use Rattle.elem_store.proofs.CallerLemmas.{Contains-cons, Contains-head, same_el
 use Rattle.view.specs.Shown.{is_live}
 use Rattle.effects.specs.declared.refusal.Refusal.TheVariants.{VersionFull}
 use Rattle.effects.specs.Changed.{is_changed, is_full, change_of, changes_of, refusal_at}
-use Rattle.effects.specs.Concerning.{change_at, is_full_at, LeavesOthers}
+use Rattle.effects.specs.inner.Concerning.{change_at, is_full_at, LeavesOthers}
 use Rattle.effects.specs.Naming.{is_among}
 use Rattle.effects.proofs.CreatedLaws.{some-or-none}
 use Rattle.effects.proofs.DifferingLaws.{differs-not}

@@ -34,13 +34,13 @@ use Rattle.effects.specs.declared.effect.Effect.TheVariants as effects
 use Rattle.effects.specs.declared.linking.Link.{Link}
 use Rattle.effects.specs.declared.linking.Label.{Label}
 use Rattle.effects.specs.declared.lookup.Lookup.{Lookup}
-use Rattle.effects.specs.Concerning.{HasNamers, HaveLinked, IsWithin, LeavesOthers}
+use Rattle.effects.specs.inner.Concerning.{HasNamers, HaveLinked, IsWithin, LeavesOthers}
 use Rattle.effects.specs.Deleting.{has_gone_names}
 use Rattle.effects.specs.Effects.{with_group, without_group}
 use Rattle.effects.specs.Linking.{listed, unlisted, with_end, with_end_of, with_container_of, with_text_of, with_text_alone, without_listing_entry}
 use Rattle.effects.specs.Lookups.{IsLookup}
 use Rattle.effects.specs.Naming.{is_among, is_some_that}
-use Rattle.effects.specs.Prepared.{made_by, settled_in}
+use Rattle.effects.specs.inner.Prepared.{made_by, settled_in}
 use Rattle.effects.specs.Refusals.{is_live_id}
 use Rattle.effects.specs.Settings.{with_set_member}
 use Rattle.effects.proofs.ChosenLaws.{contains-among}

@@ -20,7 +20,7 @@ use Rattle.elem_store.specs.Updates.{element_of, ids_of}
 use Rattle.index_repair.specs.Keyed.{index_of, HaveRisingKeys}
 use Rattle.links.specs.Names.{is_id}
 use Rattle.effects.specs.Placing.{is_of, others, first_key, gap_above, last_key, last_key_or}
-use Rattle.effects.specs.Prepared.{HasKeys, elements_among}
+use Rattle.effects.specs.inner.Prepared.{HasKeys, elements_among}
 use Rattle.effects.proofs.FirstLaws.{first-append}
 
 -- each element has a key, and that is greater than the one before

@@ -11,14 +11,14 @@ use Rattle.elem_store.specs.Updates.{element_of}
 use Rattle.elem_store.proofs.CallerLemmas.{is_some-find, list_any-false}
 use Rattle.view.specs.Shown.{is_live}
 use Rattle.index_repair.specs.Keyed.{index_of}
-use Rattle.effects.specs.Concerning.{DeletesLive}
+use Rattle.effects.specs.inner.Concerning.{DeletesLive}
 use Rattle.effects.specs.Copying.{settled_for}
 use Rattle.effects.specs.Deleting.{deleted_from}
 use Rattle.effects.specs.Lookups.{IsLookup}
 use Rattle.effects.specs.Naming.{is_among}
 use Rattle.effects.specs.Placing.{with_view_key}
 use Rattle.effects.specs.Effects.{effect}
-use Rattle.effects.specs.Prepared.{elements_among, made_by, HasKeys, HasIds, settled_in, IsSoundEffect, Prepares}
+use Rattle.effects.specs.inner.Prepared.{elements_among, made_by, HasKeys, HasIds, settled_in, IsSoundEffect, Prepares}
 use Rattle.effects.specs.Refusals.{first_missing, is_live_id}
 use Rattle.board_commands.specs.declared.command.Command.{Command}
 use Rattle.effects.specs.declared.effect.Effect.{Effect}

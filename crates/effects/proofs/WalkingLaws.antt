@@ -13,11 +13,11 @@ use Rattle.view.specs.Shown.{is_live}
 use Rattle.effects.specs.declared.refusal.Refusal.{Refusal}
 use Rattle.effects.specs.declared.effect.Effect.{Effect}
 use Rattle.effects.specs.Changed.{OnFault, is_full, change_of, refusal_at}
-use Rattle.effects.specs.Concerning.{is_full_at}
+use Rattle.effects.specs.inner.Concerning.{is_full_at}
 use Rattle.effects.specs.declared.refusal.Refusal.TheVariants.{VersionFull}
 use Rattle.elem_store.specs.Updates.{element_of}
 use Rattle.effects.specs.Differing.{differs}
-use Rattle.effects.specs.Prepared.{made_by}
+use Rattle.effects.specs.inner.Prepared.{made_by}
 use Rattle.effects.proofs.DifferingLaws.{same-where-not, differs-not}
 use Rattle.effects.proofs.FirstLaws.{OnFault-weaker}
 use Rattle.effects.proofs.KeepingLaws.{Self, made_by-keeps}

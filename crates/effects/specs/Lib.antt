@@ -1,5 +1,4 @@
 pub mod Changed
-pub mod Concerning
 pub mod Copying
 pub mod Deleting
 pub mod Differing
@@ -10,6 +9,6 @@ pub mod Linking
 pub mod Lookups
 pub mod Naming
 pub mod Placing
-pub mod Prepared
 pub mod Refusals
 pub mod Settings
+pub mod inner

@@ -9,10 +9,10 @@ ghost use Rattle.elem.specs.ElementValue.{ElementValue};
 ghost use Rattle.elem_store.specs.Updates.{element_of};
 ghost use Rattle.links.specs.Names.{is_id, target_of};
 ghost use Rattle.links.specs.Steps.{names_id};
-ghost use Rattle.effects.specs.Concerning.{DeletesLive, HasNamers, HaveLinked, IsWithin, LeavesOthers};
+ghost use Rattle.effects.specs.inner.Concerning.{DeletesLive, HasNamers, HaveLinked, IsWithin, LeavesOthers};
 ghost use Rattle.effects.specs.Lookups.{IsLookup};
 ghost use Rattle.effects.specs.Naming.{is_among};
-ghost use Rattle.effects.specs.Prepared.{made_by};
+ghost use Rattle.effects.specs.inner.Prepared.{made_by};
 
 use crate::effect::Effect;
 use crate::finding::shown_element;

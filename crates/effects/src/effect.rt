@@ -7,7 +7,7 @@ ghost use Rattle.std.specs.Option.{unwrap_or};
 ghost use Rattle.std.specs.Ordering.{nat_cmp};
 ghost use Rattle.json_text.specs.Value.{IsCompact};
 ghost use Rattle.effects.specs.Effects as effects;
-ghost use Rattle.effects.specs.Prepared.{made_by, IsSoundEffect};
+ghost use Rattle.effects.specs.inner.Prepared.{made_by, IsSoundEffect};
 ghost use Rattle.effects.specs.Settings as settings;
 
 use crate::deleting::deleted_from;

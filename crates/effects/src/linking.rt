@@ -11,7 +11,7 @@ ghost use Rattle.links.specs.Tables.{with_listing_entry};
 ghost use Rattle.links.specs.Texts.{is_for_text};
 ghost use Rattle.effects.specs.Linking as linking;
 ghost use Rattle.effects.specs.Linking.{with_end, without_listing_entry};
-ghost use Rattle.effects.specs.Prepared.{linked, put_in, taken_out};
+ghost use Rattle.effects.specs.inner.Prepared.{linked, put_in, taken_out};
 
 use crate::kinds::{is_arrow, is_text};
 use board_base::List;

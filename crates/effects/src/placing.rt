@@ -11,7 +11,7 @@ ghost use Rattle.links.specs.Names.{is_id};
 ghost use Rattle.effects.specs.Placing as placing;
 ghost use Rattle.effects.specs.Placing.{others, key_within, key_at, gap_of, with_key_of};
 ghost use Rattle.effects.specs.Lookups.{IsLookup};
-ghost use Rattle.effects.specs.Prepared.{HasKeys, elements_among, settled_in};
+ghost use Rattle.effects.specs.inner.Prepared.{HasKeys, elements_among, settled_in};
 
 use crate::copying::has_id_among;
 use crate::finding::shown_place;

@@ -16,11 +16,11 @@ use Rattle.elem.specs.declared.kind.Kind.TheVariants.{Rectangle, Diamond, Ellips
 use Rattle.elem.specs.declared.parts.Binding.{Binding}
 use Rattle.elem.specs.ElementValue.{ElementValue}
 use Rattle.elem.specs.Facts.{IsElement, IsBinding}
-use Rattle.elem.specs.Printing.{header_pair, headers_of, AreSound}
+use Rattle.elem.specs.inner.Printing.{header_pair, headers_of, AreSound}
 use Rattle.elem.specs.Texts.{kind_name, truth_text, text_or_null, bound_text, own_members, header_members, sorted_members, element_members}
 use Rattle.elem.proofs.Distinct.{IsDistinct-element, IsDistinct-binding, IsDistinct-header, names_of-header}
 use Rattle.elem.proofs.Merging.{merged-sorted, length-merged, sound-compact}
-use Rattle.elem.specs.Printing.{merged}
+use Rattle.elem.specs.inner.Printing.{merged}
 use Rattle.elem.proofs.Sorting.{IsRising, IsRising-from, IsRising-sorted, IsPermutation-sorted}
 
 abbrev pub header_pairs : ElementValue → Kind → List Pair

@@ -10,8 +10,8 @@ use Rattle.frac_keys.specs.Keys.{bytes_less}
 use Rattle.elem.specs.declared.parts.Binding.{Binding}
 use Rattle.elem.specs.ElementValue.{ElementValue}
 use Rattle.elem.specs.Facts.{IsElement, IsBinding}
-use Rattle.elem.specs.Left.{list_left, object_left, Splits}
-use Rattle.elem.specs.Printing.{members_below, members_not_below, merged, header_pair, headers_of}
+use Rattle.elem.specs.inner.Left.{list_left, object_left, Splits}
+use Rattle.elem.specs.inner.Printing.{members_below, members_not_below, merged, header_pair, headers_of}
 use Rattle.elem.specs.Texts.{binding_text, element_text}
 use Rattle.elem.proofs.Headers.{merged-element, merged-binding}
 

@@ -17,7 +17,7 @@ use Rattle.json_text.proofs.CallerLemmas.{names_of, object-compact, join-push}
 use Rattle.frac_keys.specs.Keys.{bytes_less}
 use Rattle.frac_keys.proofs.CallerLemmas.{bytes_less-trans, bytes_less-turned}
 use Rattle.scene_json.proofs.CallerLemmas.{distinct_moved}
-use Rattle.elem.specs.Printing.{opened, IsBegun, mark, members_below, members_not_below, merged, AreSound}
+use Rattle.elem.specs.inner.Printing.{opened, IsBegun, mark, members_below, members_not_below, merged, AreSound}
 use Rattle.elem.specs.Texts.{sorted_members}
 use Rattle.elem.proofs.Appending.{extends_same, extends_by, extends_then}
 use Rattle.elem.proofs.Distinct.{IsDistinct-rising, AllByRecursion-append}

@@ -1,10 +1,9 @@
 pub mod ElementValue
 pub mod Facts
 pub mod Forms
-pub mod Left
 pub mod Listings
 pub mod Order
-pub mod Printing
 pub mod Said
 pub mod Stamp
 pub mod Texts
+pub mod inner

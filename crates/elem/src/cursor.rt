@@ -3,13 +3,13 @@
 ghost use Rattle.std.specs.Prelude.{◌≡◌, [], ◌∷◌, ◌++◌, MatchOption, if◌then◌else◌};
 ghost use Rattle.json_text.specs.Compact.{member_text};
 ghost use Rattle.elem.specs.declared.source.Source.{Source};
-ghost use Rattle.elem.specs.Left.{value_left, open_left, members_left, IsElementSource, Splits};
-ghost use Rattle.elem.specs.Printing.{header_pair};
+ghost use Rattle.elem.specs.inner.Left.{value_left, open_left, members_left, IsElementSource, Splits};
+ghost use Rattle.elem.specs.inner.Printing.{header_pair};
 ghost use Rattle.elem.specs.Texts.{element_text};
 
 use crate::element::Element;
 use crate::header::{Header, headers_of};
-use crate::piece::Piece;
+use crate::piece::TextPiece;
 use crate::source::Source;
 use crate::value::{Value, first_below, member_piece, object_end, object_mark, value_of};
 use json_text::Member;
@@ -20,7 +20,7 @@ use std::marker::Model;
 #[derive(Drop)]
 pub(crate) struct Cursor<'a> {
     source: Source<'a>,
-    piece: Piece<'a>,
+    piece: TextPiece<'a>,
     value: Value<'a>,
     members: Members<'a>,
 }
@@ -35,7 +35,7 @@ pub(crate) enum Members<'a> {
 
 impl<'a> Model for Cursor<'a> {
     ghost use Rattle.std.specs.Prelude.{List, ℕ, ◌++◌};
-    ghost use Rattle.elem.specs.Left.{value_left, members_left, IsElementSource};
+    ghost use Rattle.elem.specs.inner.Left.{value_left, members_left, IsElementSource};
 
     ghost Value = { List ℕ };
 
@@ -52,7 +52,7 @@ impl<'a> Cursor<'a> {
     {
         Cursor {
             source,
-            piece: Piece::plain(b""),
+            piece: TextPiece::plain(b""),
             value: Value::Nothing,
             members: members_of(source.e),
         }
@@ -89,7 +89,7 @@ fn members_of(e: &Element) -> Members<'_>
 
 impl<'a> Members<'a> {
     /// A piece of the next member, what is left of its value, and the further members.
-    fn next(self, source: Source<'a>) -> Option<(Piece<'a>, Value<'a>, Members<'a>)>
+    fn next(self, source: Source<'a>) -> Option<(TextPiece<'a>, Value<'a>, Members<'a>)>
         requires { IsElementSource source }
         ensures { MatchOption result (members_left source.entry self.entry ≡ [])
             (λ next. Splits (members_left source.entry self.entry) next.0
@@ -108,7 +108,7 @@ fn next_of<'a>(
     first: bool,
     headers: &'static [Header],
     rest: &'a [Member],
-) -> (Piece<'a>, Value<'a>, Members<'a>)
+) -> (TextPiece<'a>, Value<'a>, Members<'a>)
     requires { IsElementSource source }
     ensures { Splits (open_left source.entry first headers.now rest.now) result.0
         (value_left result.1 ++ members_left source.entry result.2) }
@@ -129,13 +129,13 @@ fn next_of<'a>(
 }
 
 /// The next member behind all header members, or the end.
-fn next_kept<'a>(first: bool, rest: &'a [Member]) -> (Piece<'a>, Value<'a>, Members<'a>)
+fn next_kept<'a>(first: bool, rest: &'a [Member]) -> (TextPiece<'a>, Value<'a>, Members<'a>)
     ensures { (source : Source) → Splits (open_left source first [] rest.now) result.0
         (value_left result.1 ++ members_left source result.2) }
 {
     match rest.split_first() {
         None => (
-            Piece::plain(object_end(first)),
+            TextPiece::plain(object_end(first)),
             Value::Nothing,
             Members::Closed,
         ),
@@ -148,7 +148,7 @@ fn next_kept<'a>(first: bool, rest: &'a [Member]) -> (Piece<'a>, Value<'a>, Memb
 }
 
 /// A piece of a header member, and what is left of its value.
-fn header_piece<'a>(source: Source<'a>, first: bool, header: Header) -> (Piece<'a>, Value<'a>)
+fn header_piece<'a>(source: Source<'a>, first: bool, header: Header) -> (TextPiece<'a>, Value<'a>)
     requires { IsElementSource source }
     ensures { Splits ((if first then 123 else 44)
         ∷ member_text (header_pair source.entry.e.now header))
@@ -156,6 +156,6 @@ fn header_piece<'a>(source: Source<'a>, first: bool, header: Header) -> (Piece<'
 {
     let start = value_of(source, header);
     let name = header.name().as_bytes();
-    let piece = Piece::member(object_mark(first), name, start.quote, start.plain);
+    let piece = TextPiece::member(object_mark(first), name, start.quote, start.plain);
     (piece, start.value)
 }

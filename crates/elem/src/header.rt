@@ -1,7 +1,7 @@
 //! The members that every element of a kind has.
 
 ghost use Rattle.std.specs.Prelude.{◌≡◌};
-ghost use Rattle.elem.specs.Printing.{header_name, headers_of};
+ghost use Rattle.elem.specs.inner.Printing.{header_name, headers_of};
 
 use crate::kind::Kind;
 

@@ -6,7 +6,7 @@ ghost use Rattle.json_text.specs.Appending.{Extends};
 ghost use Rattle.json_text.specs.Compact.{Member as Pair};
 ghost use Rattle.json_text.specs.Members.{pairs};
 ghost use Rattle.frac_keys.specs.Keys.{bytes_less};
-ghost use Rattle.elem.specs.Printing.{IsBegun, mark, members_below, members_not_below};
+ghost use Rattle.elem.specs.inner.Printing.{IsBegun, mark, members_below, members_not_below};
 
 use board_base::bytes_order;
 use json_text::Member;

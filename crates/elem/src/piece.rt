@@ -8,7 +8,7 @@ use std::marker::Model;
 
 /// What is left of a stretch: a mark, a quote, a colon, another quote, and bytes as they are.
 #[derive(Drop)]
-pub(crate) struct Piece<'a> {
+pub(crate) struct TextPiece<'a> {
     mark: &'static [u8],
     name: QuoteBytes<'a>,
     colon: &'static [u8],
@@ -16,7 +16,7 @@ pub(crate) struct Piece<'a> {
     plain: &'a [u8],
 }
 
-impl<'a> Model for Piece<'a> {
+impl<'a> Model for TextPiece<'a> {
     ghost use Rattle.std.specs.Prelude.{List, ℕ, ◌++◌};
 
     ghost Value = { List ℕ };
@@ -24,12 +24,12 @@ impl<'a> Model for Piece<'a> {
     ghost view = { λ p. p.mark.now ++ (p.name ++ (p.colon.now ++ (p.quote ++ p.plain.now))) };
 }
 
-impl<'a> Piece<'a> {
+impl<'a> TextPiece<'a> {
     /// These bytes.
-    pub(crate) fn plain(bytes: &'a [u8]) -> Piece<'a>
+    pub(crate) fn plain(bytes: &'a [u8]) -> TextPiece<'a>
         ensures { result ≡ bytes.now }
     {
-        Piece {
+        TextPiece {
             mark: b"",
             name: QuoteBytes::none(),
             colon: b"",
@@ -39,10 +39,10 @@ impl<'a> Piece<'a> {
     }
 
     /// A quote behind a mark.
-    pub(crate) fn quote(mark: &'static [u8], text: &'a [u8]) -> Piece<'a>
+    pub(crate) fn quote(mark: &'static [u8], text: &'a [u8]) -> TextPiece<'a>
         ensures { result ≡ mark.now ++ quote text.now }
     {
-        Piece {
+        TextPiece {
             mark,
             name: QuoteBytes::of(text),
             colon: b"",
@@ -57,10 +57,10 @@ impl<'a> Piece<'a> {
         name: &'a [u8],
         value: QuoteBytes<'a>,
         plain: &'a [u8],
-    ) -> Piece<'a>
+    ) -> TextPiece<'a>
         ensures { result ≡ mark.now ++ (quote name.now ++ 58 ∷ (value.entry ++ plain.now)) }
     {
-        Piece {
+        TextPiece {
             mark,
             name: QuoteBytes::of(name),
             colon: b":",

@@ -10,7 +10,7 @@ ghost use Rattle.json_text.specs.Members.{pairs};
 ghost use Rattle.json_text.specs.Value.{IsCompact};
 ghost use Rattle.frac_keys.specs.Rising.{are_rising};
 ghost use Rattle.elem.specs.Facts.{IsBinding};
-ghost use Rattle.elem.specs.Printing.{IsBegun, header_name, header_value, header_pair};
+ghost use Rattle.elem.specs.inner.Printing.{IsBegun, header_name, header_value, header_pair};
 ghost use Rattle.elem.specs.Texts.{binding_text, header_members, element_members, element_text};
 
 use crate::element::Element;

@@ -6,15 +6,15 @@ ghost use Rattle.json_text.specs.Members.{pair_of};
 ghost use Rattle.json_text.specs.Compact.{array_text, member_text};
 ghost use Rattle.frac_keys.specs.Keys.{bytes_less};
 ghost use Rattle.elem.specs.Facts.{IsBinding};
-ghost use Rattle.elem.specs.Printing.{members_below, header_value};
-ghost use Rattle.elem.specs.Left.{list_left, object_left, value_left, start_left, Splits, IsElementSource};
+ghost use Rattle.elem.specs.inner.Printing.{members_below, header_value};
+ghost use Rattle.elem.specs.inner.Left.{list_left, object_left, value_left, start_left, Splits, IsElementSource};
 ghost use Rattle.elem.specs.Texts.{bound_text, binding_text, kind_name, role_name, truth_text, text_or_null};
 
 use crate::header::Header;
 use crate::kind::{Kind, Role};
 use crate::object::is_below;
 use crate::parts::{Binding, BoundRef};
-use crate::piece::Piece;
+use crate::piece::TextPiece;
 use crate::source::Source;
 use frac_keys::Key;
 use json_text::{Member, QuoteBytes, Text};
@@ -190,7 +190,7 @@ fn name_of(kind: &Kind) -> &[u8]
 
 impl<'a> Value<'a> {
     /// The next piece, and what is left behind it.
-    pub(crate) fn next(self) -> Option<(Piece<'a>, Value<'a>)>
+    pub(crate) fn next(self) -> Option<(TextPiece<'a>, Value<'a>)>
         ensures { MatchOption result (value_left self.entry ≡ [])
             (λ next. Splits (value_left self.entry) next.0 (value_left next.1)) }
     {
@@ -205,13 +205,13 @@ impl<'a> Value<'a> {
 }
 
 /// The next text of an array.
-fn next_text(first: bool, texts: &[Text]) -> (Piece<'_>, Value<'_>)
+fn next_text(first: bool, texts: &[Text]) -> (TextPiece<'_>, Value<'_>)
     ensures { Splits (list_left 91 93 first (map quote texts.now)) result.0 (value_left result.1) }
 {
     match texts.split_first() {
-        None => (Piece::plain(array_end(first)), Value::Nothing),
+        None => (TextPiece::plain(array_end(first)), Value::Nothing),
         Some((text, texts)) => {
-            let piece = Piece::quote(array_mark(first), text.as_bytes());
+            let piece = TextPiece::quote(array_mark(first), text.as_bytes());
             (piece, Value::Texts(false, texts))
         }
     }
@@ -238,12 +238,12 @@ fn array_end(first: bool) -> &'static [u8]
 }
 
 /// The next entry of a listing.
-fn next_entry(first: bool, entries: &[BoundRef]) -> (Piece<'_>, Value<'_>)
+fn next_entry(first: bool, entries: &[BoundRef]) -> (TextPiece<'_>, Value<'_>)
     ensures { Splits (list_left 91 93 first (map bound_text entries.now)) result.0
         (value_left result.1) }
 {
     match entries.split_first() {
-        None => (Piece::plain(array_end(first)), Value::Nothing),
+        None => (TextPiece::plain(array_end(first)), Value::Nothing),
         Some((entry, entries)) => {
             let piece = entry_piece(first, entry);
             (piece, Value::Listing(false, entries))
@@ -252,11 +252,11 @@ fn next_entry(first: bool, entries: &[BoundRef]) -> (Piece<'_>, Value<'_>)
 }
 
 /// An entry of a listing.
-fn entry_piece(first: bool, entry: &BoundRef) -> Piece<'_>
+fn entry_piece(first: bool, entry: &BoundRef) -> TextPiece<'_>
     ensures { result ≡ (if first then 91 else 44) ∷ bound_text entry.now }
 {
     let id = QuoteBytes::of(entry.id.as_bytes());
-    Piece::member(entry_mark(first), b"id", id, role_end(entry.role))
+    TextPiece::member(entry_mark(first), b"id", id, role_end(entry.role))
 }
 
 /// What stands before the members of an entry of a listing.
@@ -281,7 +281,7 @@ fn role_end(role: Role) -> &'static [u8]
 }
 
 /// The next member of a binding.
-fn next_bound<'a>(first: bool, target: &'a Text, rest: &'a [Member]) -> (Piece<'a>, Value<'a>)
+fn next_bound<'a>(first: bool, target: &'a Text, rest: &'a [Member]) -> (TextPiece<'a>, Value<'a>)
     ensures { Splits (object_left first ((codes "elementId", quote target.now) ∷ []) rest.now)
         result.0 (value_left result.1) }
 {
@@ -292,18 +292,18 @@ fn next_bound<'a>(first: bool, target: &'a Text, rest: &'a [Member]) -> (Piece<'
         }
         None => {
             let target = QuoteBytes::of(target.as_bytes());
-            let piece = Piece::member(object_mark(first), b"elementId", target, b"");
+            let piece = TextPiece::member(object_mark(first), b"elementId", target, b"");
             (piece, Value::Members(rest))
         }
     }
 }
 
 /// The next of the members behind a binding's target.
-fn next_member(rest: &[Member]) -> (Piece<'_>, Value<'_>)
+fn next_member(rest: &[Member]) -> (TextPiece<'_>, Value<'_>)
     ensures { Splits (object_left false [] rest.now) result.0 (value_left result.1) }
 {
     match rest.split_first() {
-        None => (Piece::plain(object_end(false)), Value::Nothing),
+        None => (TextPiece::plain(object_end(false)), Value::Nothing),
         Some((member, rest)) => {
             let piece = member_piece(false, member);
             (piece, Value::Members(rest))
@@ -332,12 +332,12 @@ pub(crate) fn object_end(first: bool) -> &'static [u8]
 }
 
 /// A member that is kept as it came.
-pub(crate) fn member_piece(first: bool, member: &Member) -> Piece<'_>
+pub(crate) fn member_piece(first: bool, member: &Member) -> TextPiece<'_>
     ensures { result ≡ (if first then 123 else 44) ∷ member_text (pair_of member.now) }
 {
     let mark = object_mark(first);
     let (name, value) = (member.name.as_bytes(), member.value.as_bytes());
-    Piece::member(mark, name, QuoteBytes::none(), value)
+    TextPiece::member(mark, name, QuoteBytes::none(), value)
 }
 
 /// The first member and the others, if its name is less than this one.

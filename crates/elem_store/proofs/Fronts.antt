@@ -4,7 +4,7 @@ use Rattle.std.specs.Cmp.Lexicographic.{slice_cmp}
 use Rattle.board_base.specs.Fronts.{front_of}
 use Rattle.board_base.proofs.CallerLemmas.{fronts-decide}
 use Rattle.elem.specs.ElementValue.{ElementValue}
-use Rattle.elem_store.specs.Fronts.{front_at}
+use Rattle.elem_store.specs.inner.Fronts.{front_at}
 use Rattle.elem_store.specs.Places.{order_at}
 
 -- an element is told apart from an id by its front

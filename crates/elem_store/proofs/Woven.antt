@@ -8,7 +8,7 @@ use Rattle.std.proofs.lemmas.List.Elements.{All-head, All-tail, All-cons, All-ta
 use Rattle.std.proofs.lemmas.List.Sorted.{IsNonDecreasingBy-insert}
 use Rattle.std.proofs.lemmas.Option.{slice_get-get_or}
 use Rattle.elem_store.specs.declared.indexed.Late.{Late}
-use Rattle.elem_store.specs.Indexed.{woven, AreAside, AreGaps, AreBefore}
+use Rattle.elem_store.specs.inner.Indexed.{woven, AreAside, AreGaps, AreBefore}
 
 abbrev pub AllWithin : ℕ → List Late → Type 0
 AllWithin count late = All (λ (l : Late). l.gap ≤ count) late

@@ -1,5 +1,4 @@
-pub mod Fronts
-pub mod Indexed
 pub mod Places
 pub mod Stock
 pub mod Updates
+pub mod inner

@@ -2,7 +2,7 @@
 
 ghost use Rattle.std.specs.Prelude.{◌≡◌, ◌+◌, ◌-◌, ◌<◌, ◌≤◌, [], ◌∷◌, ◌++◌, take, drop, length, insert, slice_get, OnOk, OnErr, IsOk, vec_len, vec_capacity};
 ghost use Rattle.std.specs.List.Sorted.{IsNonDecreasingBy};
-ghost use Rattle.elem_store.specs.Indexed.{woven, AreGaps, AreBefore, HasPutLate};
+ghost use Rattle.elem_store.specs.inner.Indexed.{woven, AreGaps, AreBefore, HasPutLate};
 
 use std::alloc::{AllocError, Global};
 use std::marker::Model;
@@ -28,7 +28,7 @@ pub(crate) struct Places {
 
 impl Model for Places {
     ghost use Rattle.std.specs.Prelude.{◌+◌, ◌-◌, ◌≤◌, vec_capacity, vec_len};
-    ghost use Rattle.elem_store.specs.Indexed.{PlaceList, woven, AreGaps};
+    ghost use Rattle.elem_store.specs.inner.Indexed.{PlaceList, woven, AreGaps};
 
     ghost Value = { PlaceList };
 

@@ -3,7 +3,7 @@
 ghost use Rattle.std.specs.Prelude.{◌≡◌, ◌+◌, ◌<◌, ◌≤◌, ◌≢◌, [], ◌∷◌, ◌++◌, length, insert, slice_index, slice_index_or, slice_set, if◌then◌else◌, filter_map, slice_get, vec_len, AllPairs, IfOk, IfErr, OnOk, IsOk};
 ghost use Rattle.elem.specs.Order as order;
 ghost use Rattle.board_base.specs.Fronts.{front_of};
-ghost use Rattle.elem_store.specs.Indexed.{woven, AreAside, AreGaps};
+ghost use Rattle.elem_store.specs.inner.Indexed.{woven, AreAside, AreGaps};
 ghost use Rattle.elem_store.specs.Places.{elements_at, slot_at, with_empty_at, AreInOrder, IsAt, IsBetween, IsGapFor};
 
 use crate::indexed::{Late, Places};

@@ -22,7 +22,7 @@ pub(crate) struct Shelf {
 
 impl Model for Shelf {
     ghost use Rattle.std.specs.Prelude.{◌≡◌, map, min, vec_capacity};
-    ghost use Rattle.elem_store.specs.Fronts.{Shelved, front_at};
+    ghost use Rattle.elem_store.specs.inner.Fronts.{Shelved, front_at};
 
     ghost Value = { Shelved };
 

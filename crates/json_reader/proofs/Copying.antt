@@ -4,8 +4,8 @@ use Rattle.json_text.specs.Characters.{is_space, quote}
 use Rattle.std.proofs.lemmas.List.{same_from_push}
 use Rattle.json_text.specs.Walk.{inside, Quoted}
 use Rattle.json_text.specs.Tree.{string_spelling}
-use Rattle.json_reader.specs.Drafts.{Drafted, grown}
-use Rattle.json_reader.specs.Writing.{Writer, deed, AreAlike, ground_of, Ready, stretch, writing_at, copied, Fits, HasPut, Can, Finish}
+use Rattle.json_reader.specs.inner.Drafts.{Drafted, grown}
+use Rattle.json_reader.specs.inner.Writing.{Writer, deed, AreAlike, ground_of, Ready, stretch, writing_at, copied, Fits, HasPut, Can, Finish}
 use Rattle.json_reader.proofs.Outcomes.{parted, one_more, stretch_more}
 use Rattle.json_reader.proofs.Ready.{quoted-once, stretch-quoted, stretch-appended, stretch-dropped}
 

@@ -1,7 +1,7 @@
 -- Open brackets as the digits of a number in base 2.
 use Rattle.std.proofs.Common.{◌≡◌, ℕ, zero, suc, ◌+◌, ◌*◌, ◌/◌, ◌^◌, ◌<◌, ◌≤◌, length, refl, ap, arith}
 use native.Mathlib.Nat.{pow-suc, pow-le-pow_right}
-use Rattle.json_reader.specs.Brackets.{kinds_of}
+use Rattle.json_reader.specs.inner.Brackets.{kinds_of}
 
 pub kinds_count : (n d : ℕ) → length (kinds_of n d) ≡ n
 kinds_count zero d = refl

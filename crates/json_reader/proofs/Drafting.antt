@@ -5,8 +5,8 @@ use Rattle.std.proofs.lemmas.Grind.{flat_map-append}
 use Rattle.std.proofs.lemmas.List.Elements.{All-push}
 use Rattle.std.proofs.Math.Seq.{take-append_seam}
 use Rattle.json_text.specs.Compact.{Member, collapsed}
-use Rattle.json_reader.specs.Drafts.{Drafted, fresh, grown, named, parted, closed, pair_text, pairs_text, placed_to, IsWhole}
-use Rattle.json_reader.specs.Places.{cut, entry, entries, IsPlaced, AreWithin, Place}
+use Rattle.json_reader.specs.inner.Drafts.{Drafted, fresh, grown, named, parted, closed, pair_text, pairs_text, placed_to, IsWhole}
+use Rattle.json_reader.specs.inner.Places.{cut, entry, entries, IsPlaced, AreWithin, MemberPlace}
 
 -- what stands between two others
 cut-there : (a b c : List ℕ) (start end : ℕ) → start ≡ length a → end ≡ length (a ++ b)
@@ -56,10 +56,10 @@ module _ (done : List Member) (d : Drafted) (row : IsRow done d) (name value : L
   abbrev all : List Member
   all = done ++ (name, value) ∷ []
 
-  abbrev places : List Place
+  abbrev places : List MemberPlace
   places = placed_to (length now.text) now
 
-  abbrev place : Place
+  abbrev place : MemberPlace
   place = record {
     name = record { start = d.from; end = length (d.text ++ name) };
     value =

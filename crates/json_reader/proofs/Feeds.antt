@@ -13,9 +13,9 @@ use Rattle.json_text.specs.Value.{Begins, Stands}
 use Rattle.json_text.proofs.CallerLemmas.{Stands-once, tree-Head}
 use Rattle.json_reader.specs.Faults.{IsFirstFault}
 use Rattle.json_reader.specs.Feeding.{behind_space, Feeding, IsAt, IsUnderWay}
-use Rattle.json_reader.specs.Machine.{Machine, JsonFault, Bracket, Mode, Syntax, state, top, step, fault_of}
-use Rattle.json_reader.specs.Runs.{run, start, IsKept}
-use Rattle.json_reader.specs.Writing.{Reader, stretch, EndsAt, Breaks, Came, IsBroken, IsRefusedIn, HasFed}
+use Rattle.json_reader.specs.inner.Machine.{Machine, JsonFault, Bracket, Mode, Syntax, state, top, step, fault_of}
+use Rattle.json_reader.specs.inner.Runs.{run, start, IsKept}
+use Rattle.json_reader.specs.inner.Writing.{ValueReader, stretch, EndsAt, Breaks, Came, IsBroken, IsRefusedIn, HasFed}
 use Rattle.json_reader.specs.declared.reader.Taken.TheVariants as taken
 use Rattle.json_reader.proofs.Outcomes.{parted, read_on, refused_in, ends_stands, first_fault}
 use Rattle.json_reader.proofs.ValueRuns.{blank_over, Stands-cut, begins_less, begins_runs, runs_begins, value_runs}
@@ -138,7 +138,7 @@ pub kept_none : IsKept []
 kept_none = record { mode = Mode.Value; brackets = []; ran = refl; begun = refl; goes_on = refl }
 
 module _ (rest piece bytes : List ℕ) (is : bytes ≡ behind_space (rest ++ piece)) where
-  pub through_fed : (reader : Reader) → Came bytes 0 (taken.Through reader) → (left : List ℕ) → left ≡ bytes
+  pub through_fed : (reader : ValueReader) → Came bytes 0 (taken.Through reader) → (left : List ℕ) → left ≡ bytes
       → HasFed (behind_space (rest ++ piece)) piece left (length piece) None
   through_fed reader came left same = (
     refl,

@@ -8,7 +8,7 @@ use Rattle.std.proofs.lemmas.Bool.Decides.{nat_tests}
 use lib.Utf8.{low_scalar}
 use Rattle.json_text.specs.Value.{Begins, IsLongest, IsInString, IsUnfinished, IsTooDeepBracket, IsStray, IsBrokenOff, IsBadUtf8}
 use Rattle.json_reader.specs.Faults.{IsJsonFault}
-use Rattle.json_reader.specs.Machine.{Syntax, Depth, Utf8, Tail, Bracket, Role, Place, Plain, Sequence, Mode, Quoted, Outcome, state, refused, top, step, moved, opens, tail_led, tail_length, is_stray, stray_fault, bracket_fault, fault_of, JsonFault, One}
+use Rattle.json_reader.specs.inner.Machine.{Syntax, Depth, Utf8, Tail, Bracket, Role, Place, Plain, Sequence, Mode, Quoted, Outcome, state, refused, top, step, moved, opens, tail_led, tail_length, is_stray, stray_fault, bracket_fault, fault_of, JsonFault, One}
 use Rattle.json_text.proofs.CallerLemmas.{append-none}
 use Rattle.json_reader.proofs.Sequences.{Completes, IsChar, char_led, led_char}
 use Rattle.json_reader.proofs.Steps.{run, start, run-append, lead_char, led_high}

@@ -2,7 +2,7 @@
 use Rattle.std.proofs.Common.{◌≡◌, ◌⊎◌, inr, ◌==◌, ℕ, ◌+◌, ◌<◌, ◌≤◌, List, [], ◌∷◌, ◌++◌, length, Bool, true, false, Option, Some, None, refl, sym, ap, subst, ◌∙◌, arith, append_assoc, append-nil, length-append, zero, suc, replicate, inl, length-drop}
 use Rattle.std.proofs.lemmas.Bool.{cond_both, false≢true, lt-ltb}
 use Rattle.json_text.specs.Tree.{opening}
-use Rattle.json_reader.specs.Machine.{Tail, One, Bracket, Square, Role, Plain, Escape, Hex, Sequence, Mode, Fresh, After, Quoted, Move, To, Open, Close, End, Refuse, Place, Outcome, state, top, applied, moved, container_of, after_move, tail_led, tail_fits, tail_length, refused, opens, string_move}
+use Rattle.json_reader.specs.inner.Machine.{Tail, One, Bracket, Square, Role, Plain, Escape, Hex, Sequence, Mode, Fresh, After, Quoted, Move, To, Open, Close, End, Refuse, Place, Outcome, state, top, applied, moved, container_of, after_move, tail_led, tail_fits, tail_length, refused, opens, string_move}
 use Rattle.json_reader.proofs.Sequences.{Completes, IsChar, led_char}
 use Rattle.json_reader.proofs.Steps.{go, run, run-append, lead_char}
 use Rattle.json_reader.proofs.NumberRuns.{ended_part}

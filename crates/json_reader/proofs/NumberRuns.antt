@@ -5,7 +5,7 @@ use Rattle.std.proofs.lemmas.Bool.{and_from, eqb-false, false≢true, cond_both}
 use Rattle.json_text.specs.Characters.{is_digit}
 use Rattle.json_text.specs.Tree.{AreDigits, IsSign, IsIntegerPart, IsFraction, IsExponent, IsNumber}
 use Rattle.json_text.specs.Value.{extends_number}
-use Rattle.json_reader.specs.Machine.{Part, Minus, Zero, Whole, Dot, Fraction, Letter, Sign, Exponent, part_begun, after_fraction, after_whole, part_after, is_complete}
+use Rattle.json_reader.specs.inner.Machine.{Part, Minus, Zero, Whole, Dot, Fraction, Letter, Sign, Exponent, part_begun, after_fraction, after_whole, part_after, is_complete}
 use Rattle.json_text.proofs.CallerLemmas.{number}
 
 abbrev pub on_part : (Part → Bool) → Option Part → Bool

@@ -3,8 +3,8 @@ use Rattle.std.proofs.Common.{◌≡◌, ℕ, Bool, true, List, [], ◌∷◌, �
 use Rattle.std.specs.List.{AllByRecursion}
 use Rattle.std.proofs.lemmas.Bool.Decides.{nat_tests}
 use Rattle.json_text.specs.Value.{extends_number}
-use Rattle.json_reader.specs.Machine.{Part, Minus, Zero, Whole, Dot, Fraction, Letter, Sign, Exponent, Bracket, Number, state, top, applied, is_complete, number_move_on, part_after, parts_after}
-use Rattle.json_reader.specs.Runs.{run}
+use Rattle.json_reader.specs.inner.Machine.{Part, Minus, Zero, Whole, Dot, Fraction, Letter, Sign, Exponent, Bracket, Number, state, top, applied, is_complete, number_move_on, part_after, parts_after}
+use Rattle.json_reader.specs.inner.Runs.{run}
 
 -- after one byte more
 pub parts_after-push : (part : Part) (xs : List ℕ) (b : ℕ) (last next : Part) → parts_after part xs ≡ Some last

@@ -5,11 +5,11 @@ use Rattle.std.specs.List.{AllByRecursion}
 use Rattle.std.proofs.lemmas.List.{append_cancel_right, drop-drop, take-append-drop}
 use Rattle.std.proofs.Math.Seq.{take-add, take-append_seam, drop-append_seam}
 use Rattle.json_text.specs.Value.{Stands, IsFaulty}
-use Rattle.json_reader.specs.Runs.{is_over}
-use Rattle.json_reader.specs.Writing.{stretch, Ends, Breaks, IsBroken, IsRefusedIn, Came}
+use Rattle.json_reader.specs.inner.Runs.{is_over}
+use Rattle.json_reader.specs.inner.Writing.{stretch, Ends, Breaks, IsBroken, IsRefusedIn, Came}
 use Rattle.json_reader.specs.declared.reader.Taken.TheVariants as taken
 use Rattle.json_reader.specs.Faults.{IsFirstFault}
-use Rattle.json_reader.specs.Machine.{Machine, Bracket, Mode, To, Outcome, state, ended, refused, top, moved, step, fault_of, JsonFault, Fresh, After, Move, Open, Close, End, Refuse, applied}
+use Rattle.json_reader.specs.inner.Machine.{Machine, Bracket, Mode, To, Outcome, state, ended, refused, top, moved, step, fault_of, JsonFault, Fresh, After, Move, Open, Close, End, Refuse, applied}
 use Rattle.json_reader.proofs.Steps.{run, start, run-append}
 use Rattle.json_reader.proofs.ValueRuns.{refused_faulty, undone_faulty, ended_stands, done_stands}
 use Rattle.json_reader.proofs.FirstFaults.{told}

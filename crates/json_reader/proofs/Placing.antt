@@ -6,7 +6,7 @@ use Rattle.std.proofs.lemmas.List.Elements.{All-set, All-push}
 use Rattle.std.proofs.Math.ListN.{set}
 use Rattle.std.specs.List.{list_any}
 use Rattle.json_text.specs.Compact.{Member, collapsed}
-use Rattle.json_reader.specs.Places.{cut, entry, entries, mark_of, IsPlaced, AreWithin, Place}
+use Rattle.json_reader.specs.inner.Places.{cut, entry, entries, mark_of, IsPlaced, AreWithin, MemberPlace}
 use Rattle.json_text.proofs.CallerLemmas.{bytes_eq-true, bytes_eq-same, bytes_eq-flip, bytes_eq-apart, names_of, insert_entry, collapsed-push}
 
 -- the place of the first member of this name, counted from a number on
@@ -45,16 +45,16 @@ insert-last n (m ∷ ms) name value i zero d some at = grind (arith, place-withi
 insert-last n (m ∷ ms) name value i (suc k) d some at = grind (arith, insert-last (suc n) ms name value i k d)
 
 -- ---- members that stand in a text
-abbrev pub nowhere : Place
+abbrev pub nowhere : MemberPlace
 nowhere = record { name = record { start = 0; end = 0 }; value = record { start = 0; end = 0 } }
 
 -- one member more is looked at
-pub entries-push : (bytes : List ℕ) (places : List Place) (i : ℕ) → i < length places
+pub entries-push : (bytes : List ℕ) (places : List MemberPlace) (i : ℕ) → i < length places
     → entries bytes (take (i + 1) places) ≡ entries bytes (take i places) ++ entry bytes (get_or places i nowhere) ∷ []
 entries-push bytes places i here =
     rw (take_more places i nowhere here) (map-append (entry bytes) (take i places) (get_or places i nowhere ∷ []))
 
-pub entries-more : (bytes : List ℕ) (places : List Place) (i : ℕ) → i < length places →
+pub entries-more : (bytes : List ℕ) (places : List MemberPlace) (i : ℕ) → i < length places →
     collapsed (entries bytes (take (i + 1) places))
     ≡ insert_entry (collapsed (entries bytes (take i places))) (cut bytes (get_or places i nowhere).name)
     (cut bytes (get_or places i nowhere).value)
@@ -63,17 +63,18 @@ entries-more bytes places i here =
 
 -- These places are kept of those before i, and this says at which of them a name stands. None is left out where no name
 -- came again.
-pub record AreKept (bytes : List ℕ) (places kept : List Place) (i : ℕ) (find : List ℕ → Option ℕ) (repeats : Bool) :
+pub record AreKept (bytes : List ℕ) (places kept : List MemberPlace) (i : ℕ) (find : List ℕ
+    → Option ℕ) (repeats : Bool) :
     Type 0 where
   pub within : AreWithin (length bytes) kept
   pub same : entries bytes kept ≡ collapsed (entries bytes (take i places))
   pub found : (name : List ℕ) → find name ≡ place_from 0 name (entries bytes kept)
   pub plain : repeats ≡ false → kept ≡ take i places
 
-module _ (bytes : List ℕ) (places kept : List Place) (i : ℕ) (find : List ℕ
+module _ (bytes : List ℕ) (places kept : List MemberPlace) (i : ℕ) (find : List ℕ
     → Option ℕ) (repeats : Bool) (are : AreKept bytes places kept i find repeats)
     (here : i < length places) (fits : AreWithin (length bytes) places) where
-  abbrev place : Place
+  abbrev place : MemberPlace
   place = get_or places i nowhere
 
   abbrev pub name : List ℕ
@@ -88,12 +89,12 @@ module _ (bytes : List ℕ) (places kept : List Place) (i : ℕ) (find : List �
       length-map kept (entry bytes),
     )
 
-    pub kept_last : (d : Place)
+    pub kept_last : (d : MemberPlace)
         → AreKept bytes places (set kept first (record { name = (get_or kept first d).name; value = place.value }))
         (i + 1) find true
     kept_last d =
         let at : place_from 0 name (entries bytes kept) ≡ Some first = sym (are.found name) ∙ there in
-        let new : Place = record { name = (get_or kept first d).name; value = place.value } in
+        let new : MemberPlace = record { name = (get_or kept first d).name; value = place.value } in
         let put : entries bytes (set kept first new) ≡ insert_entry (entries bytes kept) name (cut bytes place.value) =
         map-set (entry bytes) kept first new
         ∙ sym (rw (
@@ -133,7 +134,7 @@ module _ (bytes : List ℕ) (places kept : List Place) (i : ℕ) (find : List �
 
 -- ---- names by their marks
 -- The names at the places before i are all kept, and a name whose mark wasn't seen is none of them.
-pub record AreSeen (bytes : List ℕ) (places : List Place) (i : ℕ) (seen : List Bool) : Type 0 where
+pub record AreSeen (bytes : List ℕ) (places : List MemberPlace) (i : ℕ) (seen : List Bool) : Type 0 where
   pub kept : collapsed (entries bytes (take i places)) ≡ entries bytes (take i places)
   pub marked : (name : List ℕ) → get_or seen (mark_of name) false ≡ false
       → list_any (bytes_eq name) (names_of (entries bytes (take i places))) ≡ false
@@ -145,7 +146,7 @@ insert-unknown [] name value new = grind arith
 insert-unknown (m ∷ ms) name value new = grind (arith, insert-unknown ms name value)
 
 -- one name more, which is new
-pub seen_more : (bytes : List ℕ) (places : List Place) (i : ℕ) (seen : List Bool) (mark : ℕ) → i < length places
+pub seen_more : (bytes : List ℕ) (places : List MemberPlace) (i : ℕ) (seen : List Bool) (mark : ℕ) → i < length places
     → AreSeen bytes places i seen
     → mark ≡ mark_of (cut bytes (get_or places i nowhere).name) → mark < 256
     → list_any (bytes_eq (cut bytes (get_or places i nowhere).name)) (names_of (entries bytes (take i places))) ≡ false

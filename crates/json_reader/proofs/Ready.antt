@@ -11,9 +11,9 @@ use Rattle.json_text.specs.Characters.{is_space, is_blank, is_plain, quote, quot
 use Rattle.json_text.specs.Compact.{Member, content, compact, members, collapsed, label_name, member_text, array_text, object_text, has_other_name, last_value}
 use Rattle.json_text.specs.Walk.{inside, Quoted}
 use Rattle.json_text.specs.Tree.{Piece, bare, letter, unit, IsPiece, piece_spelling, string_spelling, array, object, Label, unnamed, named, IsLabel, label_spelling, Tree, scalar, text, empty, filled, Values, last, next, spelling, values_spelling, IsGood, AreGood}
-use Rattle.json_reader.specs.Drafts.{Drafted, fresh, grown, pair_text, pairs_text}
-use Rattle.json_reader.specs.Places.{quoted}
-use Rattle.json_reader.specs.Writing.{Writing, between, deed_at, Can, Done, AreAlike, Ready, Deed, Skip, Keep, Slash, Push}
+use Rattle.json_reader.specs.inner.Drafts.{Drafted, fresh, grown, pair_text, pairs_text}
+use Rattle.json_reader.specs.inner.Places.{quoted}
+use Rattle.json_reader.specs.inner.Writing.{Writing, between, deed_at, Can, Done, AreAlike, Ready, Deed, Skip, Keep, Slash, Push}
 use Rattle.json_text.proofs.CallerLemmas.{members-utf8, content-first, is_part_of_literal, list_all-each, literal-plain, regroup-last, regroup-next, plain-bare, quoted-bare, plain-quote, plain-slash, hex-plain, pieces-once, bytes_eq-true, bytes_eq-same, collapsed-names, quote-Quoted}
 use Rattle.json_reader.proofs.Drafting.{IsRow, row_none, row_more, labelled, whole, closed_so}
 use Rattle.json_reader.specs.declared.staying.Ground.TheVariants as ground
@@ -339,7 +339,8 @@ module _ (written : List ℕ) where
         → Is (between (grown d (b ∷ xs)) ds) more
     stretch-appended (inl blank) solid = absurd (false≢true (sym solid ∙ blank.0))
     stretch-appended (inr digits) solid =
-        (literals (b ∷ xs) d ds (all-pass extends_number is_part_of_literal (λ x part. grind (arith, nat_tests)) (b ∷ xs)
+        (literals (b ∷ xs) d ds (all-pass extends_number is_part_of_literal (λ x part. grind (arith, nat_tests))
+        (b ∷ xs)
         digits) more).1
 
     pub stretch-dropped : AreAlike ground.Between (b ∷ xs) → is_space b ≡ true → Is (between d ds) (b ∷ xs ++ more)

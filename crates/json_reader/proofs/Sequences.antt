@@ -4,7 +4,7 @@ use Rattle.std.specs.Char.{encode_utf8, IsScalar}
 use Rattle.std.proofs.lemmas.Bool.Decides.{nat_tests}
 use Rattle.std.proofs.lemmas.Bool.{cases_lt}
 use lib.Utf8.{scalar, low_scalar, next}
-use Rattle.json_reader.specs.Machine.{Tail, One, Two, tail_led, tail_fits, tail_after}
+use Rattle.json_reader.specs.inner.Machine.{Tail, One, Two, tail_led, tail_fits, tail_after}
 
 abbrev pub on_tail : (Tail → Type 0) → Type 0 → Option Tail → Type 0
 on_tail goes over None = over

@@ -10,8 +10,8 @@ use lib.Utf8.{low_scalar}
 use Rattle.json_text.specs.Characters.{is_hex, is_space, is_blank, is_bare}
 use Rattle.json_text.specs.Tree.{Piece, IsPiece, piece_spelling, closing, Tree, spelling, IsGood, depth, Values, values_spelling, AreGood, values_depth, bare, unit, Label, unnamed, named, label_spelling, IsLabel, last, next, letter, letter_meaning, opening, scalar, text, empty, filled, IsWord}
 use Rattle.json_text.specs.Value.{extends_number, Follows}
-use Rattle.json_reader.specs.Machine.{Bracket, Square, Curly, Role, Place, Plain, Escape, Hex, Sequence, Mode, Fresh, Name, Colon, After, Quoted, letters_of, Number, Word, container_of, Outcome, state, ended, refused, Tail, One, after_digit, tail_fits, in_sequence, tail_after, Part, Letters, Ull, Rue, Alse, To, Open, Move, applied, step, part_begun, value_begun, tail_led, tail_length, part_after, top, string_move, closes_bracket, after_move, is_complete, number_move_on, first_move, after_letter, first_letter, led_on}
-pub use Rattle.json_reader.specs.Runs.{go, run, start}
+use Rattle.json_reader.specs.inner.Machine.{Bracket, Square, Curly, Role, Place, Plain, Escape, Hex, Sequence, Mode, Fresh, Name, Colon, After, Quoted, letters_of, Number, Word, container_of, Outcome, state, ended, refused, Tail, One, after_digit, tail_fits, in_sequence, tail_after, Part, Letters, Ull, Rue, Alse, To, Open, Move, applied, step, part_begun, value_begun, tail_led, tail_length, part_after, top, string_move, closes_bracket, after_move, is_complete, number_move_on, first_move, after_letter, first_letter, led_on}
+pub use Rattle.json_reader.specs.inner.Runs.{go, run, start}
 use Rattle.json_text.proofs.CallerLemmas.{Stops, Front, Blank, spread, regroup-last, regroup-next}
 use Rattle.json_reader.proofs.NumberRuns.{ends, number_run, run_number}
 use Rattle.json_reader.proofs.Sequences.{Completes, IsChar, led_char}

@@ -11,7 +11,7 @@ use Rattle.json_text.specs.Characters.{is_space, is_blank}
 use Rattle.json_text.specs.Tree.{Piece, bare, letter, unit, IsPiece, piece_spelling, array, object, opening, closing, Label, unnamed, named, label_spelling, IsLabel, Tree, scalar, text, empty, filled, spelling, IsGood, depth, Values, last, next, values_spelling, AreGood, values_depth, IsNumber}
 use Rattle.json_text.specs.Value.{extends_number, Value, Follows, Stands, Begins, IsFaulty}
 use Rattle.json_text.specs.Compact.{compact}
-use Rattle.json_reader.specs.Machine.{Part, Tail, One, Bracket, Square, Curly, Role, Plain, Escape, Hex, Sequence, Mode, Fresh, Name, Colon, After, Quoted, Number, Move, To, Close, state, top, applied, moved, container_of, after_string, after_comma, after_move, part_begun, part_after, is_complete, value_begun, number_move_on, tail_length, Zero, Two, Three, Long3, Low3, Long4, Low4, Word, Ull, Place, letters_of, Outcome, ended, refused, step}
+use Rattle.json_reader.specs.inner.Machine.{Part, Tail, One, Bracket, Square, Curly, Role, Plain, Escape, Hex, Sequence, Mode, Fresh, Name, Colon, After, Quoted, Number, Move, To, Close, state, top, applied, moved, container_of, after_string, after_comma, after_move, part_begun, part_after, is_complete, value_begun, number_move_on, tail_length, Zero, Two, Three, Long3, Low3, Long4, Low4, Word, Ull, Place, letters_of, Outcome, ended, refused, step}
 use Rattle.json_text.proofs.CallerLemmas.{space-ends, spread, regroup-last, regroup-next, four-hex}
 use Rattle.json_reader.proofs.NumberRuns.{ends, IsRun, number_run, ended_part, some_part}
 use Rattle.json_reader.proofs.Sequences.{Completes, char_led}

@@ -3,10 +3,10 @@ use Rattle.std.proofs.Common.{◌≡◌, ℕ, ◌+◌, ◌<◌, ◌≤◌, lengt
 use Rattle.json_text.specs.Compact.{compact}
 use Rattle.json_text.specs.Tree.{spelling}
 use Rattle.json_text.specs.Value.{Stands}
-use Rattle.json_reader.specs.Drafts.{fresh, grown}
-use Rattle.json_reader.specs.Machine.{Machine, To, state, top, moved}
+use Rattle.json_reader.specs.inner.Drafts.{fresh, grown}
+use Rattle.json_reader.specs.inner.Machine.{Machine, To, state, top, moved}
 use Rattle.std.specs.List.{AllByRecursion}
-use Rattle.json_reader.specs.Writing.{Writer, between, deed_at, Ready, HasWritten, stretch, writing_at, Fits, Can, HasPut, HasRead, Ends, Came, GoesOn}
+use Rattle.json_reader.specs.inner.Writing.{Writer, between, deed_at, Ready, HasWritten, stretch, writing_at, Fits, Can, HasPut, HasRead, Ends, Came, GoesOn}
 use Rattle.json_reader.specs.declared.reader.Taken.TheVariants as taken
 use Rattle.json_reader.proofs.Steps.{run, start, run-append}
 use Rattle.json_reader.proofs.ValueRuns.{runs_begins}

@@ -1,8 +1,3 @@
-pub mod Brackets
-pub mod Drafts
 pub mod Faults
 pub mod Feeding
-pub mod Machine
-pub mod Places
-pub mod Runs
-pub mod Writing
+pub mod inner

@@ -1,7 +1,7 @@
 //! The brackets that are open.
 
 ghost use Rattle.std.specs.Prelude.{◌≡◌, ◌<◌, nat_le, length, drop, [], ◌∷◌};
-ghost use Rattle.json_reader.specs.Machine.{top};
+ghost use Rattle.json_reader.specs.inner.Machine.{top};
 
 use std::marker::Model;
 
@@ -22,7 +22,7 @@ pub(crate) struct Brackets {
 
 impl Model for Brackets {
     ghost use Rattle.std.specs.Prelude.{◌^◌, ◌<◌, ◌≤◌, List};
-    ghost use Rattle.json_reader.specs.Brackets.{kinds_of};
+    ghost use Rattle.json_reader.specs.inner.Brackets.{kinds_of};
     ghost use Rattle.json_reader.specs.declared.brackets.Bracket.{Bracket};
 
     ghost Value = { List Bracket };

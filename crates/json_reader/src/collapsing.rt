@@ -4,8 +4,8 @@ ghost use Rattle.std.specs.Prelude.{◌≡◌, ◌<◌, ◌≤◌, length, slice
 ghost use Rattle.std.specs.List.{list_any};
 ghost use Rattle.json_text.specs.Compact.{collapsed};
 ghost use Rattle.json_text.specs.Parts.{names_of};
-ghost use Rattle.json_reader.specs.Drafts.{pairs_text};
-ghost use Rattle.json_reader.specs.Places.{cut, entries, mark_of, IsWithin, AreWithin};
+ghost use Rattle.json_reader.specs.inner.Drafts.{pairs_text};
+ghost use Rattle.json_reader.specs.inner.Places.{cut, entries, mark_of, IsWithin, AreWithin};
 
 use json_text::FEW_MEMBERS;
 use std::alloc::{AllocError, Global};
@@ -20,19 +20,19 @@ pub(crate) struct Span {
 
 /// Where a member stands: its quoted name and its value.
 #[derive(Clone, Copy)]
-pub(crate) struct Place {
+pub(crate) struct MemberPlace {
     pub name: Span,
     pub value: Span,
 }
 
 /// Where a name comes again among the members that are all of the text, writes the text anew: the
 /// last value stands at the first one's place. Names are equal where their quotes are. Those of few
-/// members are compared one by one; among many an ordered map finds them, so that no choice of names
-/// makes this slow.
+/// members are compared one by one; among many an ordered map finds them, so that no choice of
+/// names makes this slow.
 pub(crate) fn collapse(
     alloc: Global,
     text: &mut Vec<u8>,
-    places: &[Place],
+    places: &[MemberPlace],
 ) -> Result<(), AllocError>
     requires within { AreWithin (length text.old.items) places.now }
     requires written { text.old.items ≡ pairs_text (entries text.old.items places.now) }
@@ -49,7 +49,7 @@ pub(crate) fn collapse(
 }
 
 /// Whether no name comes again. Only names with one mark are compared.
-fn are_distinct(bytes: &[u8], places: &[Place]) -> bool
+fn are_distinct(bytes: &[u8], places: &[MemberPlace]) -> bool
     requires { AreWithin (length bytes.now) places.now }
     ensures { IsTrue result → collapsed (entries bytes.now places.now)
         ≡ entries bytes.now places.now }
@@ -81,7 +81,7 @@ fn mark_of(name: &[u8]) -> usize
 }
 
 /// Whether the name is one of those at these places. It is none of them if its mark wasn't seen.
-fn comes_again(bytes: &[u8], name: &[u8], seen: bool, places: &[Place]) -> bool
+fn comes_again(bytes: &[u8], name: &[u8], seen: bool, places: &[MemberPlace]) -> bool
     requires within { AreWithin (length bytes.now) places.now }
     requires marked { seen ≡ false
         → list_any (bytes_eq name.now) (names_of (entries bytes.now places.now)) ≡ false }
@@ -102,8 +102,8 @@ fn comes_again(bytes: &[u8], name: &[u8], seen: bool, places: &[Place]) -> bool
 fn kept_places(
     alloc: Global,
     bytes: &[u8],
-    places: &[Place],
-) -> Result<Option<Vec<Place>>, AllocError>
+    places: &[MemberPlace],
+) -> Result<Option<Vec<MemberPlace>>, AllocError>
     requires { AreWithin (length bytes.now) places.now }
     ensures kept { IfOk result (λ found. MatchOption found
         (collapsed (entries bytes.now places.now) ≡ entries bytes.now places.now)
@@ -111,7 +111,7 @@ fn kept_places(
     ensures within { IfOk result (λ found. IfSome found
         (λ kept. AreWithin (length bytes.now) kept.items)) }
 {
-    let mut kept: Vec<Place> = Vec::new(alloc);
+    let mut kept: Vec<MemberPlace> = Vec::new(alloc);
     let mut known: BTreeMap<&[u8], usize> = BTreeMap::new(alloc);
     let mut repeats = false;
     for place in places {
@@ -131,7 +131,7 @@ fn kept_places(
 }
 
 /// Has this value stand at a place.
-fn keep_last(kept: &mut Vec<Place>, first: usize, value: Span)
+fn keep_last(kept: &mut Vec<MemberPlace>, first: usize, value: Span)
     requires { first < length kept.old.items }
     ensures { kept.new.items ≡ slice_set kept.old.items first
         (record {
@@ -141,12 +141,12 @@ fn keep_last(kept: &mut Vec<Place>, first: usize, value: Span)
         }) }
 {
     let name = kept[first].name;
-    kept[first] = Place { name, value };
+    kept[first] = MemberPlace { name, value };
 }
 
 /// The members that stand at these places, between commas.
 #[tactic(auto, using(crate::proofs::Drafting::text_steps))]
-fn text_of(alloc: Global, bytes: &[u8], places: &[Place]) -> Result<Vec<u8>, AllocError>
+fn text_of(alloc: Global, bytes: &[u8], places: &[MemberPlace]) -> Result<Vec<u8>, AllocError>
     requires { AreWithin (length bytes.now) places.now }
     ensures { IfOk result (λ text. text.items ≡ pairs_text (entries bytes.now places.now)) }
 {

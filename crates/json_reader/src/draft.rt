@@ -2,9 +2,9 @@
 
 ghost use Rattle.std.specs.Prelude.{◌≡◌, length, ◌+◌, ◌-◌, IfOk, OnOk, OnErr};
 ghost use Rattle.json_text.specs.Characters.{quote};
-ghost use Rattle.json_reader.specs.Drafts.{fresh, grown, named, parted, closed, placed, IsWhole};
+ghost use Rattle.json_reader.specs.inner.Drafts.{fresh, grown, named, parted, closed, placed, IsWhole};
 
-use crate::collapsing::{Place, Span, collapse};
+use crate::collapsing::{MemberPlace, Span, collapse};
 use json_text::{FEW_MEMBERS, Text, push_quote};
 use std::alloc::{AllocError, Global};
 use std::marker::Model;
@@ -22,7 +22,7 @@ pub(crate) struct Draft {
     /// Where the quoted name of the member under way stands, if its colon has come.
     name: Option<Span>,
     /// Where the whole members stand.
-    places: Vec<Place>,
+    places: Vec<MemberPlace>,
     /// How many arrays are open in the object.
     level: u64,
 }
@@ -41,7 +41,7 @@ impl Drop for Draft {
 }
 
 impl Model for Draft {
-    ghost use Rattle.json_reader.specs.Drafts.{Drafted};
+    ghost use Rattle.json_reader.specs.inner.Drafts.{Drafted};
 
     ghost Value = { Drafted };
 
@@ -210,12 +210,16 @@ impl Draft {
 }
 
 /// Puts the member of this name and value behind the others, if there is a name.
-fn place_member(places: &mut Vec<Place>, name: Option<Span>, value: Span) -> Result<(), AllocError>
+fn place_member(
+    places: &mut Vec<MemberPlace>,
+    name: Option<Span>,
+    value: Span,
+) -> Result<(), AllocError>
     ensures ok { OnOk result (places.new.items ≡ placed places.old.items name value) }
     ensures err { OnErr result (places.new.items ≡ places.old.items) }
 {
     if let Some(name) = name {
-        places.push(Place { name, value })?;
+        places.push(MemberPlace { name, value })?;
     }
     Ok(())
 }

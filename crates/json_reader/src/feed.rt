@@ -5,12 +5,12 @@ ghost use Rattle.json_text.specs.Characters.{is_blank};
 ghost use Rattle.json_text.specs.Value.{Stands};
 ghost use Rattle.json_reader.specs.Faults.{IsFirstFault};
 ghost use Rattle.json_reader.specs.Feeding.{behind_space, IsAt, IsUnderWay};
-ghost use Rattle.json_reader.specs.Runs.{IsKept};
-ghost use Rattle.json_reader.specs.Writing.{Came, HasFed, IsBroken, IsRead, IsRefusedIn};
+ghost use Rattle.json_reader.specs.inner.Runs.{IsKept};
+ghost use Rattle.json_reader.specs.inner.Writing.{Came, HasFed, IsBroken, IsRead, IsRefusedIn};
 ghost use Rattle.json_reader.specs.declared.fault.JsonFault.{JsonFault};
 
 use crate::fault::JsonFault;
-use crate::reader::{Reader, Taken};
+use crate::reader::{Taken, ValueReader};
 use board_base::Stop;
 use json_text::{Raw, skip_space};
 use std::alloc::{AllocError, Global};
@@ -31,7 +31,7 @@ pub struct Fed {
 /// under way.
 pub struct Feed {
     /// It has read a first part of the rest.
-    reader: Reader,
+    reader: ValueReader,
     rest: Vec<u8>,
     used: usize,
     fault: Option<JsonFault>,
@@ -51,8 +51,8 @@ impl Drop for Feed {
 
 impl Model for Feed {
     ghost use Rattle.json_reader.specs.Feeding.{Feeding};
-    ghost use Rattle.json_reader.specs.Runs.{IsKept};
-    ghost use Rattle.json_reader.specs.Writing.{IsRead};
+    ghost use Rattle.json_reader.specs.inner.Runs.{IsKept};
+    ghost use Rattle.json_reader.specs.inner.Writing.{IsRead};
 
     ghost Value = { Feeding };
 
@@ -68,7 +68,7 @@ impl Feed {
         ensures { result ≡ record { rest = []; used = 0; fault = None } }
     {
         Feed {
-            reader: Reader::new(alloc, 0),
+            reader: ValueReader::new(alloc, 0),
             rest: Vec::new(alloc),
             used: 0,
             fault: None,
@@ -188,7 +188,7 @@ impl Feed {
 
 /// Reads a piece behind the rest of the earlier ones, before which so many bytes were used.
 fn read_piece(
-    reader: &mut Reader,
+    reader: &mut ValueReader,
     rest: &mut Vec<u8>,
     piece: &[u8],
     used: usize,
@@ -214,7 +214,7 @@ fn read_piece(
 /// the value goes on.
 #[tactic(auto, using(crate::proofs::Feeds::space_within, crate::proofs::Feeds::first_bytes, crate::proofs::Feeds::fed_steps))]
 fn read_first(
-    reader: &mut Reader,
+    reader: &mut ValueReader,
     rest: &mut Vec<u8>,
     piece: &[u8],
     used: usize,
@@ -254,7 +254,7 @@ fn read_first(
 /// begins with the rest anew.
 #[tactic(auto, using(crate::proofs::Feeds::behind_on, crate::proofs::Feeds::late_ended, crate::proofs::Feeds::late_refused, crate::proofs::Feeds::fed_steps))]
 fn read_more(
-    reader: &mut Reader,
+    reader: &mut ValueReader,
     rest: &mut Vec<u8>,
     piece: &[u8],
     used: usize,
@@ -305,7 +305,7 @@ fn read_more(
 #[tactic(auto, using(crate::proofs::Feeds::end_steps))]
 fn read_end(
     alloc: Global,
-    reader: &mut Reader,
+    reader: &mut ValueReader,
     rest: &[u8],
     place: usize,
 ) -> Result<Raw, Stop<JsonFault>>
@@ -326,10 +326,10 @@ fn read_end(
 
 /// Reads these bytes, the first ones of which were read before, and leaves a reader that begins
 /// anew.
-fn read_on(alloc: Global, reader: &mut Reader, bytes: &[u8]) -> Result<Taken, AllocError>
+fn read_on(alloc: Global, reader: &mut ValueReader, bytes: &[u8]) -> Result<Taken, AllocError>
     requires { IsRead bytes.now 0 reader.old }
     ensures came { IfOk result (λ taken. Came bytes.now 0 taken) }
     ensures anew { (any : List ℕ) → IsRead any 0 reader.new }
 {
-    replace(reader, Reader::new(alloc, 0)).read(alloc, bytes)
+    replace(reader, ValueReader::new(alloc, 0)).read(alloc, bytes)
 }

@@ -7,9 +7,9 @@ ghost use Rattle.std.specs.Prelude.{◌≡◌, ◌↔◌, ◌-◌, ◌≤◌, Is
 ghost use Rattle.std.specs.List.{AllByRecursion};
 ghost use Rattle.json_text.specs.Characters.{is_space, is_hex};
 ghost use Rattle.json_text.specs.Tree.{opening, closing};
-ghost use Rattle.json_reader.specs.Machine.{container_of, first_move, closes_bracket, after_comma, after_string, value_begun, after_move, led_on, tail_led, string_move, first_letter, after_letter, moved, string_fault, bracket_fault, fault_of, top, step, state, ended, Stepped};
-ghost use Rattle.json_reader.specs.Runs.{is_over, run};
-ghost use Rattle.json_reader.specs.Writing.{AreAlike, stretch};
+ghost use Rattle.json_reader.specs.inner.Machine.{container_of, first_move, closes_bracket, after_comma, after_string, value_begun, after_move, led_on, tail_led, string_move, first_letter, after_letter, moved, string_fault, bracket_fault, fault_of, top, step, state, ended, Stepped};
+ghost use Rattle.json_reader.specs.inner.Runs.{is_over, run};
+ghost use Rattle.json_reader.specs.inner.Writing.{AreAlike, stretch};
 ghost use Rattle.json_reader.specs.declared.machine.Move.TheVariants.{To};
 
 use crate::brackets::{Bracket, Brackets};
@@ -87,7 +87,7 @@ pub(crate) enum Move {
 
 /// What came of a byte.
 #[derive(Clone, Copy)]
-pub(crate) enum Step {
+pub(crate) enum Progress {
     On,
     /// The value has ended before this byte.
     Ended,
@@ -117,12 +117,12 @@ impl Machine {
     /// Takes one byte more, unless no value goes on with it. Few bytes need it: it is one call, for
     /// which the machine stays in memory.
     #[inline(never)]
-    pub(crate) fn step(&mut self, byte: u8) -> Step
+    pub(crate) fn step(&mut self, byte: u8) -> Progress
         ensures { Stepped self.old self.new result byte }
     {
         match moved(self.mode, self.brackets.top(), byte) {
             Move::To(mode) => self.mode = mode,
-            Move::Open(_) if self.brackets.is_full() => return Step::Refused,
+            Move::Open(_) if self.brackets.is_full() => return Progress::Refused,
             Move::Open(bracket) => {
                 self.brackets.push(bracket);
                 self.mode = Mode::Fresh;
@@ -131,10 +131,10 @@ impl Machine {
                 self.brackets.pop();
                 self.mode = Mode::After;
             }
-            Move::End => return Step::Ended,
-            Move::Refuse => return Step::Refused,
+            Move::End => return Progress::Ended,
+            Move::Refuse => return Progress::Refused,
         }
-        Step::On
+        Progress::On
     }
 
     /// Where a stretch from `at` on ends whose bytes all leave the machine as it is, on this

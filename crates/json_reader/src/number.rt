@@ -2,8 +2,8 @@
 
 ghost use Rattle.std.specs.Prelude.{◌≡◌, ◌≤◌, Some, length};
 ghost use Rattle.json_text.specs.Value.{extends_number};
-ghost use Rattle.json_reader.specs.Machine.{part_begun, part_after, parts_after, after_whole, after_fraction, is_complete};
-ghost use Rattle.json_reader.specs.Writing.{stretch};
+ghost use Rattle.json_reader.specs.inner.Machine.{part_begun, part_after, parts_after, after_whole, after_fraction, is_complete};
+ghost use Rattle.json_reader.specs.inner.Writing.{stretch};
 
 /// The part of a number that came last.
 #[derive(Clone, Copy)]

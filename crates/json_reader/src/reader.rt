@@ -5,12 +5,12 @@
 
 ghost use Rattle.std.specs.Prelude.{◌≡◌, ℕ, ◌+◌, ◌<◌, ◌≤◌, List, [], Err, length, drop, slice_index, IfOk, OnOk};
 ghost use Rattle.json_text.specs.Value.{Stands};
-ghost use Rattle.json_reader.specs.Writing.{Came, Ends, Fits, GoesOn, HasRead, IsBroken, IsRead, ReadsOn};
+ghost use Rattle.json_reader.specs.inner.Writing.{Came, Ends, Fits, GoesOn, HasRead, IsBroken, IsRead, ReadsOn};
 ghost use Rattle.json_reader.specs.declared.fault.JsonFault.{JsonFault};
 ghost use Rattle.json_reader.specs.declared.machine.Machine.{Machine};
 
 use crate::fault::JsonFault;
-use crate::machine::{Machine, Step};
+use crate::machine::{Machine, Progress};
 use crate::staying::Ground;
 use crate::writing::Writer;
 use board_base::Stop;
@@ -21,7 +21,7 @@ use std::alloc::{AllocError, Global};
 #[derive(Drop)]
 pub(crate) enum Taken {
     /// All bytes are read, and the value isn't over.
-    Through(Reader),
+    Through(ValueReader),
     /// The value has ended before this offset.
     Ended(Raw, usize),
     /// No value goes on with the byte at this offset.
@@ -30,19 +30,19 @@ pub(crate) enum Taken {
 
 /// The reader of one value. It has read the bytes before an offset, and what they make is written.
 #[derive(Drop)]
-pub(crate) struct Reader {
+pub(crate) struct ValueReader {
     machine: Machine,
     writer: Writer,
     next: usize,
 }
 
-impl Reader {
+impl ValueReader {
     /// It reads from an offset on.
     #[tactic(auto, using(crate::proofs::Written::written_starts, crate::proofs::Copying::stretch_none))]
-    pub(crate) fn new(alloc: Global, at: usize) -> Reader
+    pub(crate) fn new(alloc: Global, at: usize) -> ValueReader
         ensures { (bytes : List ℕ) → at ≤ length bytes → IsRead bytes at result }
     {
-        Reader {
+        ValueReader {
             machine: Machine::new(),
             writer: Writer::new(alloc, at),
             next: at,
@@ -56,23 +56,23 @@ impl Reader {
         ensures { IfOk result (λ taken. (at : ℕ) → IsRead bytes.now at self
             → Came bytes.now at taken) }
     {
-        let Reader {
+        let ValueReader {
             mut machine,
             mut writer,
             mut next,
         } = self;
         while next < bytes.len() {
             match machine.step(bytes[next]) {
-                Step::On => next = take(alloc, &mut machine, &mut writer, bytes, next)?,
-                Step::Ended => return Ok(Taken::Ended(value_of(writer, bytes, next)?, next)),
-                Step::Refused => return Ok(Taken::Refused(machine, next)),
+                Progress::On => next = take(alloc, &mut machine, &mut writer, bytes, next)?,
+                Progress::Ended => return Ok(Taken::Ended(value_of(writer, bytes, next)?, next)),
+                Progress::Refused => return Ok(Taken::Refused(machine, next)),
             }
         }
         // The next byte, which would end it too, may be long in coming.
         if machine.is_over() {
             return Ok(Taken::Ended(value_of(writer, bytes, next)?, next));
         }
-        Ok(Taken::Through(Reader {
+        Ok(Taken::Through(ValueReader {
             machine,
             writer,
             next,
@@ -88,7 +88,7 @@ impl Reader {
         ensures fault { (fault : JsonFault) → result ≡ Err (Stop.Fault fault) → (at : ℕ)
             → IsRead bytes.now at self → IsBroken (drop at bytes.now) [] place fault }
     {
-        let Reader {
+        let ValueReader {
             machine,
             writer,
             next,

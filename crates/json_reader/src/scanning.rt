@@ -6,7 +6,7 @@ ghost use Rattle.json_reader.specs.Faults.{IsFirstFault};
 ghost use Rattle.json_reader.specs.declared.fault.JsonFault.{JsonFault};
 
 use crate::fault::JsonFault;
-use crate::reader::{Reader, Taken};
+use crate::reader::{Taken, ValueReader};
 use board_base::Stop;
 use json_text::Raw;
 use std::alloc::Global;
@@ -24,7 +24,7 @@ pub fn scan(alloc: Global, bytes: &[u8], at: usize) -> Result<(Raw, usize), Stop
     ensures fault { (fault : JsonFault) → result ≡ Err (Stop.Fault fault)
         → IsFirstFault bytes.now at fault }
 {
-    match Reader::new(alloc, at).read(alloc, bytes)? {
+    match ValueReader::new(alloc, at).read(alloc, bytes)? {
         Taken::Through(reader) => Ok((reader.finish(bytes, bytes.len())?, bytes.len())),
         Taken::Ended(value, end) => Ok((value, end)),
         Taken::Refused(machine, next) => {

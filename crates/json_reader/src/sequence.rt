@@ -1,7 +1,7 @@
 //! The bytes of one character in UTF-8 (Unicode, table 3-7).
 
 ghost use Rattle.std.specs.Prelude.{◌≡◌, ◌+◌};
-ghost use Rattle.json_reader.specs.Machine.{tail_led, tail_fits, tail_after, tail_length};
+ghost use Rattle.json_reader.specs.inner.Machine.{tail_led, tail_fits, tail_after, tail_length};
 
 /// What must still come of a sequence.
 #[derive(Clone, Copy)]

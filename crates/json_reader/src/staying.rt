@@ -3,8 +3,8 @@
 ghost use Rattle.std.specs.Prelude.{◌≡◌, ◌+◌, ◌-◌, ◌≤◌, take, drop, length};
 ghost use Rattle.std.specs.List.{AllByRecursion, prefix_len};
 ghost use Rattle.json_text.specs.Characters.{is_digit};
-ghost use Rattle.json_reader.specs.Machine.{moved};
-ghost use Rattle.json_reader.specs.Writing.{AreAlike};
+ghost use Rattle.json_reader.specs.inner.Machine.{moved};
+ghost use Rattle.json_reader.specs.inner.Writing.{AreAlike};
 ghost use Rattle.json_reader.specs.declared.machine.Move.TheVariants.{To};
 
 use crate::brackets::Bracket;

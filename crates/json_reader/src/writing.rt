@@ -6,8 +6,8 @@
 
 ghost use Rattle.std.specs.Prelude.{◌≡◌, ℕ, ◌+◌, ◌<◌, ◌≤◌, List, [], ◌++◌, true, false, length, slice_index, IfOk, OnOk};
 ghost use Rattle.json_text.specs.Walk.{outside, inside};
-ghost use Rattle.json_reader.specs.Drafts.{fresh, grown};
-ghost use Rattle.json_reader.specs.Writing.{between, deed, deed_at, stretch, copied, ground_of, writing_at, AreAlike, Can, Fits, HasPut, Ready};
+ghost use Rattle.json_reader.specs.inner.Drafts.{fresh, grown};
+ghost use Rattle.json_reader.specs.inner.Writing.{between, deed, deed_at, stretch, copied, ground_of, writing_at, AreAlike, Can, Fits, HasPut, Ready};
 ghost use Rattle.json_reader.specs.declared.writing.Deed.TheVariants.{Skip, Begin, Finish, Open, Shut, Name, Part, Deepen, Rise, Push};
 
 use crate::draft::Draft;

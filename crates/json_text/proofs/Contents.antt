@@ -12,7 +12,7 @@ use Rattle.std.specs.List.{AllByRecursion, list_all, prefix_len}
 use Rattle.json_text.specs.Characters.{is_plain, quote, quoted_byte}
 use Rattle.json_text.specs.Tree.{Piece, bare, letter, unit, IsPiece, letter_meaning, piece_spelling}
 use Rattle.json_text.specs.Compact.{piece_value, is_high, is_low, paired, lone, characters, content}
-use Rattle.json_text.specs.Spans.{between, StandsQuoted}
+use Rattle.json_text.specs.inner.Spans.{between, StandsQuoted}
 use Rattle.json_text.specs.Walk.{Quoted, Unread, Takes, StartsWithUnit, unit_at}
 use Rattle.json_text.proofs.Strings.{lone-same, lone-first, paired-scalar, content-utf8, plain-bare, quoted-bare}
 

@@ -1,7 +1,7 @@
 -- Parts of parts.
 use Rattle.std.proofs.Common.{◌≡◌, ◌≤◌, ◌<◌, ℕ, ◌+◌, ◌-◌, List, drop, length, arith, drop-drop, length-drop}
 use Rattle.std.proofs.lemmas.List.{drop-take, take-take, length-take}
-use Rattle.json_text.specs.Spans.{between, StandsQuoted}
+use Rattle.json_text.specs.inner.Spans.{between, StandsQuoted}
 
 -- the part of a part
 pub between_between : (bytes : List ℕ) (start end low high : ℕ) → low ≤ high → high ≤ length (between bytes start end)

@@ -5,8 +5,7 @@ pub mod Compact
 pub mod FirstOccurrences
 pub mod Members
 pub mod Parts
-pub mod Spans
-pub mod Stretches
 pub mod Tree
 pub mod Value
 pub mod Walk
+pub mod inner

@@ -4,7 +4,7 @@ ghost use Rattle.std.specs.Prelude.{◌≡◌, ◌≢◌, ℕ, [], ◌∷◌, tr
 ghost use Rattle.std.specs.List.{list_all};
 ghost use Rattle.json_text.specs.Characters;
 ghost use Rattle.json_text.specs.Characters.{is_hex};
-ghost use Rattle.json_text.specs.Spans.{between};
+ghost use Rattle.json_text.specs.inner.Spans.{between};
 ghost use Rattle.json_text.specs.Tree.{unit, IsPiece};
 ghost use Rattle.json_text.specs.Compact.{lone, piece_value};
 ghost use Rattle.json_text.specs.Compact;

@@ -2,7 +2,7 @@
 
 ghost use Rattle.std.specs.Prelude.{◌≡◌, ◌+◌, ◌≤◌, length, IfOk, IfSome};
 ghost use Rattle.json_text.specs.Characters.{quote};
-ghost use Rattle.json_text.specs.Spans.{between, bytes_at, StandsQuoted};
+ghost use Rattle.json_text.specs.inner.Spans.{between, bytes_at, StandsQuoted};
 
 use std::alloc::AllocError;
 use std::marker::Model;
@@ -11,7 +11,7 @@ use std::rc::Rc;
 /// A list of bytes that never changes, so that its copies and its parts share one place in memory.
 /// It is as small as can be, since an element has some forty of them.
 pub(crate) struct Stretch {
-    held: Held,
+    held: Backing,
 }
 
 // By hand, so that whoever drops a text sees one call and not the ways in which its bytes are held.
@@ -23,7 +23,7 @@ impl Drop for Stretch {
 
 impl Model for Stretch {
     ghost use Rattle.std.specs.Prelude.{List, ℕ};
-    ghost use Rattle.json_text.specs.Stretches.{bytes_of, IsHeld};
+    ghost use Rattle.json_text.specs.inner.Stretches.{bytes_of, IsHeld};
 
     ghost Value = { List ℕ };
 
@@ -34,7 +34,7 @@ impl Model for Stretch {
 
 /// Where the bytes are.
 #[derive(Drop)]
-enum Held {
+enum Backing {
     /// They are a part of bytes that others have parts of.
     Shared(Part),
     /// They are such a part, with their quote around them.
@@ -53,7 +53,7 @@ struct Part {
 
 impl Model for Part {
     ghost use Rattle.std.specs.Prelude.{◌≤◌, length};
-    ghost use Rattle.json_text.specs.Spans.{Span};
+    ghost use Rattle.json_text.specs.inner.Spans.{Span};
 
     ghost Value = { Span };
 
@@ -78,7 +78,7 @@ impl Stretch {
             end,
         };
         Ok(Stretch {
-            held: Held::Shared(part),
+            held: Backing::Shared(part),
         })
     }
 
@@ -87,7 +87,7 @@ impl Stretch {
         ensures { result ≡ bytes.now }
     {
         Stretch {
-            held: Held::Fixed(bytes),
+            held: Backing::Fixed(bytes),
         }
     }
 
@@ -97,8 +97,8 @@ impl Stretch {
         ensures { result ≡ length self.now }
     {
         match &self.held {
-            Held::Shared(part) | Held::Quoted(part) => part.len(),
-            Held::Fixed(bytes) => bytes.len(),
+            Backing::Shared(part) | Backing::Quoted(part) => part.len(),
+            Backing::Fixed(bytes) => bytes.len(),
         }
     }
 
@@ -108,8 +108,8 @@ impl Stretch {
         ensures { result.now ≡ self.now }
     {
         match &self.held {
-            Held::Shared(part) | Held::Quoted(part) => part.as_slice(),
-            Held::Fixed(bytes) => bytes,
+            Backing::Shared(part) | Backing::Quoted(part) => part.as_slice(),
+            Backing::Fixed(bytes) => bytes,
         }
     }
 
@@ -119,9 +119,9 @@ impl Stretch {
         ensures { IfOk result (λ copy. copy ≡ self.now) }
     {
         let held = match &self.held {
-            Held::Shared(part) => Held::Shared(part.try_clone()?),
-            Held::Quoted(part) => Held::Quoted(part.try_clone()?),
-            Held::Fixed(bytes) => Held::Fixed(bytes),
+            Backing::Shared(part) => Backing::Shared(part.try_clone()?),
+            Backing::Quoted(part) => Backing::Quoted(part.try_clone()?),
+            Backing::Fixed(bytes) => Backing::Fixed(bytes),
         };
         Ok(Stretch { held })
     }
@@ -133,8 +133,8 @@ impl Stretch {
         ensures { IfOk result (λ stretch. stretch ≡ between self.now start end) }
     {
         let held = match &self.held {
-            Held::Shared(part) | Held::Quoted(part) => Held::Shared(part.cut(start, end)?),
-            Held::Fixed(bytes) => Held::Fixed(&bytes[start..end]),
+            Backing::Shared(part) | Backing::Quoted(part) => Backing::Shared(part.cut(start, end)?),
+            Backing::Fixed(bytes) => Backing::Fixed(&bytes[start..end]),
         };
         Ok(Stretch { held })
     }
@@ -147,8 +147,8 @@ impl Stretch {
         ensures { IfOk result (λ stretch. stretch ≡ between self.now start end) }
     {
         let held = match &self.held {
-            Held::Shared(part) | Held::Quoted(part) => Held::Quoted(part.cut(start, end)?),
-            Held::Fixed(bytes) => Held::Fixed(&bytes[start..end]),
+            Backing::Shared(part) | Backing::Quoted(part) => Backing::Quoted(part.cut(start, end)?),
+            Backing::Fixed(bytes) => Backing::Fixed(&bytes[start..end]),
         };
         Ok(Stretch { held })
     }
@@ -158,8 +158,8 @@ impl Stretch {
         ensures { IfSome result (λ bytes. bytes.now ≡ quote self.now) }
     {
         match &self.held {
-            Held::Quoted(part) => Some(part.around()),
-            Held::Shared(_) | Held::Fixed(_) => None,
+            Backing::Quoted(part) => Some(part.around()),
+            Backing::Shared(_) | Backing::Fixed(_) => None,
         }
     }
 }

@@ -3,7 +3,7 @@
 ghost use Rattle.std.specs.Prelude.{◌≡◌, ◌-◌, ◌≤◌, take, drop, length, IfOk, IfSome, MatchOption};
 ghost use Rattle.std.specs.Str.{IsUtf8};
 ghost use Rattle.json_text.specs.Characters.{quote};
-ghost use Rattle.json_text.specs.Spans.{between, StandsQuoted};
+ghost use Rattle.json_text.specs.inner.Spans.{between, StandsQuoted};
 ghost use Rattle.json_text.specs.Value.{IsCompact};
 
 use crate::stretch::Stretch;

@@ -14,7 +14,7 @@ use Rattle.scene_json.proofs.CallerLemmas.{bytes_eq-tied}
 use Rattle.frac_keys.specs.Rising.{are_rising}
 use Rattle.frac_keys.proofs.CallerLemmas.{sorted-rising}
 use Rattle.library.specs.Best.{ids_of, is_better, is_put, item_of, HasPut}
-use Rattle.library.specs.Filed.{filed, items_in, AreFiled, Entry, IsFiled}
+use Rattle.library.specs.inner.Filed.{filed, items_in, AreFiled, Entry, IsFiled}
 use Rattle.library.specs.declared.item.Item.{Item}
 use Rattle.library.proofs.BestLaws.{HasPut-so}
 

@@ -9,7 +9,7 @@ use Rattle.scene_json.proofs.CallerLemmas.{mapped-step}
 use Rattle.elem.specs.ElementValue.{ElementValue}
 use Rattle.elem.specs.Texts.{element_text}
 use Rattle.library.specs.Items.{item_text, library_text}
-use Rattle.library.specs.Printing.{name_text, status_text, text_before_name}
+use Rattle.library.specs.inner.Printing.{name_text, status_text, text_before_name}
 use Rattle.library.specs.declared.item.Item.{Item}
 
 -- ---- an item

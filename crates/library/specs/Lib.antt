@@ -1,9 +1,7 @@
 pub mod Best
 pub mod Faults
-pub mod Filed
-pub mod Found
 pub mod Inserting
 pub mod Items
 pub mod Libraries
-pub mod Printing
 pub mod Reading
+pub mod inner

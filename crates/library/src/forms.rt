@@ -4,7 +4,7 @@ ghost use Rattle.std.specs.Prelude.{◌↔◌, IfOk, IsTrue};
 ghost use Rattle.json_text.specs.Members.{pairs};
 ghost use Rattle.scene_json.specs.Named.{value_at};
 ghost use Rattle.elem.specs.Forms.{IsId, IsNull, IsTextOrNull};
-ghost use Rattle.library.specs.Found.{IsFoundAs};
+ghost use Rattle.library.specs.inner.Found.{IsFoundAs};
 ghost use Rattle.library.specs.Reading.{IsArray, IsStatus, IsTime};
 
 use board_base::List;

@@ -2,7 +2,7 @@
 
 ghost use Rattle.std.specs.Prelude.{◌≡◌, ◌++◌, IfOk, OnOk};
 ghost use Rattle.library.specs.Items.{item_text};
-ghost use Rattle.library.specs.Printing.{name_text, status_text, text_before_name};
+ghost use Rattle.library.specs.inner.Printing.{name_text, status_text, text_before_name};
 ghost use Rattle.library.specs.Items as items;
 
 use crate::item::Item;

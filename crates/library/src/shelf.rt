@@ -5,7 +5,7 @@ ghost use Rattle.std.specs.List.{join_with_byte};
 ghost use Rattle.frac_keys.specs.Rising.{are_rising};
 ghost use Rattle.library.specs.Best.{AreBest, HasPut, ids_of, is_put, item_of};
 ghost use Rattle.library.specs.Best as best;
-ghost use Rattle.library.specs.Filed.{filed, items_in, IsFiled};
+ghost use Rattle.library.specs.inner.Filed.{filed, items_in, IsFiled};
 ghost use Rattle.library.specs.Items.{item_text};
 ghost use Rattle.library.specs.declared.item.Item.{Item};
 
@@ -37,7 +37,7 @@ impl Drop for Shelf {
 
 impl Model for Shelf {
     ghost use Rattle.std.specs.Prelude.{List as Items};
-    ghost use Rattle.library.specs.Filed.{items_in, IsFiled};
+    ghost use Rattle.library.specs.inner.Filed.{items_in, IsFiled};
     ghost use Rattle.library.specs.declared.item.Item.{Item};
 
     ghost Value = { Items Item };

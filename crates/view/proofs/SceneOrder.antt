@@ -7,7 +7,7 @@ use Rattle.elem.specs.ElementValue.{ElementValue}
 use Rattle.elem.specs.Order.{HaveDistinctIds}
 use Rattle.view.specs.Shown.{comes_before, in_scene_order, IsSceneOrder}
 use Rattle.view.specs.inner.Spots.{element_at, elements_of}
-use Rattle.view.specs.declared.order.Spot.{Spot}
+use Rattle.view.specs.declared.order.SortedSpot.{SortedSpot}
 use Rattle.view.proofs.InOrder.{IsElementOrder, IsPermutation-in_order, AllPairs-in_order, in_order-only}
 use Rattle.view.proofs.OrderLaws.{place_cmp, place_cmp-total, comes_before-cmp, comes_before-order, tied-ids}
 
@@ -25,7 +25,7 @@ in_scene_order-is es apart = record {
 }
 
 -- ---- elements by their spots
-abbrev pub spot_before : Spot → Spot → Bool
+abbrev pub spot_before : SortedSpot → SortedSpot → Bool
 spot_before spot other = comes_before (element_at spot) (element_at other)
 
 pub spot_before-order : IsStrictWeakOrder spot_before
@@ -34,7 +34,8 @@ spot_before-order = record {
   chain = λ x y z. comes_before-order.chain (element_at x) (element_at y) (element_at z);
 }
 
-pub sorted-elements : (spots : List Spot) → IsSortedBy spot_before spots → IsSortedBy comes_before (elements_of spots)
+pub sorted-elements : (spots : List SortedSpot) → IsSortedBy spot_before spots
+    → IsSortedBy comes_before (elements_of spots)
 sorted-elements [] up k d low within = absurd (omega (arith, within))
 sorted-elements (spot ∷ spots) up k d low within =
     let inside : k + 1 < length (spot ∷ spots) = omega (arith, within, length-map (spot ∷ spots) element_at) in

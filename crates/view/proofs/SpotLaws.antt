@@ -12,9 +12,9 @@ use Rattle.elem.specs.ElementValue.{ElementValue}
 use Rattle.elem.specs.Order.{HaveDistinctIds}
 use Rattle.elem_store.specs.Updates.{ids_of}
 use Rattle.view.specs.inner.Spots.{elements_of, indices_of, AreSpotsIn, IsSpotIn}
-use Rattle.view.specs.declared.order.Spot.{Spot}
+use Rattle.view.specs.declared.order.SortedSpot.{SortedSpot}
 
-pub stored-at : (stored : List ElementValue) (spots : List Spot) → AreSpotsIn stored spots
+pub stored-at : (stored : List ElementValue) (spots : List SortedSpot) → AreSpotsIn stored spots
     → filter_map (slice_get stored) (indices_of spots) ≡ elements_of spots
 stored-at stored [] h = refl
 stored-at stored (spot ∷ spots) h = ap₂ cons_option (All-head (IsSpotIn stored) spot spots h)
@@ -23,7 +23,7 @@ stored-at stored (spot ∷ spots) h = ap₂ cons_option (All-head (IsSpotIn stor
 abbrev id_at : List ElementValue → ℕ → List ℕ
 id_at stored i = option_map_or (λ (e : ElementValue). e.id) (slice_get stored i) []
 
-ids-at : (stored : List ElementValue) (spots : List Spot) → AreSpotsIn stored spots
+ids-at : (stored : List ElementValue) (spots : List SortedSpot) → AreSpotsIn stored spots
     → map (id_at stored) (indices_of spots) ≡ ids_of (elements_of spots)
 ids-at stored [] h = refl
 ids-at stored (spot ∷ spots) h =
@@ -31,7 +31,7 @@ ids-at stored (spot ∷ spots) h =
     (All-head (IsSpotIn stored) spot spots h))
     (ids-at stored spots (All-tail (IsSpotIn stored) spot spots h))
 
-pub indices-differ : (stored : List ElementValue) (spots : List Spot) → AreSpotsIn stored spots
+pub indices-differ : (stored : List ElementValue) (spots : List SortedSpot) → AreSpotsIn stored spots
     → HaveDistinctIds (elements_of spots) → AllPairs (λ i j. i ≢ j) (indices_of spots)
 indices-differ stored spots h apart i j d l m same =
     let id = id_at stored in

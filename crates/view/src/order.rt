@@ -12,14 +12,14 @@ use std::cmp::Ordering;
 
 /// A stored element, and where it stands in its store.
 #[derive(Clone, Copy)]
-pub(crate) struct Spot<'a> {
+pub(crate) struct SortedSpot<'a> {
     pub(crate) at: usize,
     pub(crate) element: &'a Element,
 }
 
 /// Sorts elements of distinct ids by index, none last, and then by id. The elements themselves stay
 /// where they are.
-pub(crate) fn sort(spots: &mut Vec<Spot<'_>>) -> Result<(), AllocError>
+pub(crate) fn sort(spots: &mut Vec<SortedSpot<'_>>) -> Result<(), AllocError>
     requires { HaveDistinctIds (elements_of spots.old.items) }
     ensures sorted { OnOk result (elements_of spots.new.items
         ≡ in_scene_order (elements_of spots.old.items)) }

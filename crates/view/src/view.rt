@@ -11,7 +11,7 @@ ghost use Rattle.view.specs.inner.Spots.{elements_of, indices_of, AreSpotsIn};
 ghost use Rattle.index_repair.specs.Keyed.{index_of, keyed, HaveKeysOrNone, HaveRisingKeys};
 ghost use Rattle.view.specs.Shown.{as_stored, in_scene_order, is_live, live_elements, shown, IsSceneOrder, bare};
 
-use crate::order::{Spot, are_in_order, sort};
+use crate::order::{SortedSpot, are_in_order, sort};
 use board_base::List;
 use elem::{Element, same};
 use elem_store::Store;
@@ -146,7 +146,7 @@ fn order_of(alloc: Global, store: &Store) -> Result<Vec<usize>, AllocError>
 }
 
 /// Where the elements at the spots stand in their store.
-fn indices_of(alloc: Global, spots: &Vec<Spot<'_>>) -> Result<Vec<usize>, AllocError>
+fn indices_of(alloc: Global, spots: &Vec<SortedSpot<'_>>) -> Result<Vec<usize>, AllocError>
     ensures { IfOk result (λ indices. indices.items ≡ indices_of spots.now.items) }
 {
     let mut indices = Vec::with_capacity(alloc, spots.len())?;
@@ -157,7 +157,7 @@ fn indices_of(alloc: Global, spots: &Vec<Spot<'_>>) -> Result<Vec<usize>, AllocE
 }
 
 /// The live elements of a store, in the order of their ids.
-fn live_of(alloc: Global, store: &Store) -> Result<Vec<Spot<'_>>, AllocError>
+fn live_of(alloc: Global, store: &Store) -> Result<Vec<SortedSpot<'_>>, AllocError>
     ensures exact { IfOk result (λ live. elements_of live.items
         ≡ live_elements store.now.elements) }
     ensures stored { IfOk result (λ live. AreSpotsIn store.now.elements live.items) }
@@ -167,7 +167,7 @@ fn live_of(alloc: Global, store: &Store) -> Result<Vec<Spot<'_>>, AllocError>
     for i in 0..store.len() {
         if let Some(e) = store.at(i) {
             if is_live(e) {
-                live.push(Spot { at: i, element: e })?;
+                live.push(SortedSpot { at: i, element: e })?;
             }
         }
     }
@@ -182,7 +182,7 @@ fn is_live(e: &Element) -> bool
 }
 
 /// What is shown of the live elements; the spots are then in scene order.
-fn shown_of(alloc: Global, live: &mut Vec<Spot<'_>>) -> Result<List<Element>, AllocError>
+fn shown_of(alloc: Global, live: &mut Vec<SortedSpot<'_>>) -> Result<List<Element>, AllocError>
     requires { HaveDistinctIds (elements_of live.old.items) }
     ensures exact { IfOk result (λ new. new ≡ shown (elements_of live.old.items)) }
     ensures keys { IfOk result (λ _. HaveKeysOrNone (elements_of live.old.items)) }
@@ -220,7 +220,7 @@ fn keyed_of(alloc: Global, elements: Vec<Element>) -> Result<List<Element>, Allo
 }
 
 /// The elements at the spots, copied.
-fn copied(alloc: Global, spots: &Vec<Spot<'_>>) -> Result<Vec<Element>, AllocError>
+fn copied(alloc: Global, spots: &Vec<SortedSpot<'_>>) -> Result<Vec<Element>, AllocError>
     ensures { IfOk result (λ new. new.items ≡ elements_of spots.now.items) }
 {
     let mut elements = Vec::with_capacity(alloc, spots.len())?;
@@ -235,7 +235,7 @@ fn copied(alloc: Global, spots: &Vec<Spot<'_>>) -> Result<Vec<Element>, AllocErr
 fn originals_of(
     alloc: Global,
     store: &Store,
-    spots: &Vec<Spot<'_>>,
+    spots: &Vec<SortedSpot<'_>>,
     shown: &List<Element>,
 ) -> Result<List<Element>, AllocError>
     ensures { IfOk result
@@ -255,7 +255,7 @@ fn originals_of(
 }
 
 /// The stored element of this id, which most often stands at the spot.
-fn stored_at<'a>(store: &'a Store, spot: Option<&Spot<'_>>, id: &Text) -> Option<&'a Element>
+fn stored_at<'a>(store: &'a Store, spot: Option<&SortedSpot<'_>>, id: &Text) -> Option<&'a Element>
     ensures { option_copied result ≡ element_of store.now.elements id.now }
 {
     if let Some(spot) = spot {

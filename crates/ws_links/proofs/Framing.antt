@@ -12,7 +12,7 @@ use Rattle.websocket.specs.Frame.{encode_frame}
 use Rattle.websocket.specs.FrameHeader.{encode_header}
 use Rattle.websocket.specs.Text.{is_utf8}
 use Rattle.websocket.specs.View.{Leaves}
-use Rattle.ws_links.specs.Texts.{content_of_text, frame_of_text}
+use Rattle.ws_links.specs.inner.Texts.{content_of_text, frame_of_text}
 
 -- a server masks nothing
 unmasked : (op : OpCode) (bytes out : List ℕ) (mask : Option (List ℕ)) → IsMaskOf Server mask

@@ -1,6 +1,6 @@
 -- What a link holds. This project's own.
 use Rattle.std.specs.Prelude.{◌≤◌, ◌<◌, ℕ, List, length, slice_index_or}
-use Rattle.ws_links.specs.Sums.{capped, held_with}
+use Rattle.ws_links.specs.inner.Sums.{capped, held_with}
 use Rattle.ws_links.specs.declared.link.Link.{Link}
 
 -- how many bytes of memory a link holds, each frame as if it stood there alone

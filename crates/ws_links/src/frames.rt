@@ -2,7 +2,7 @@
 
 ghost use Rattle.std.specs.Prelude.{◌≡◌, drop, IsTrue, IfOk};
 ghost use Rattle.websocket.specs.Content.{message_content};
-ghost use Rattle.ws_links.specs.Texts.{content_of_text, frame_of_text};
+ghost use Rattle.ws_links.specs.inner.Texts.{content_of_text, frame_of_text};
 
 use board_base::Stop;
 use board_ends::Failed;

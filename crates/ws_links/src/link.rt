@@ -2,7 +2,7 @@
 
 ghost use Rattle.std.specs.Prelude.{◌≡◌};
 ghost use Rattle.ws_links.specs.Held.{held_by};
-ghost use Rattle.ws_links.specs.Sums.{held_with};
+ghost use Rattle.ws_links.specs.inner.Sums.{held_with};
 
 use crate::buffer::Buffer;
 use crate::frames::config;

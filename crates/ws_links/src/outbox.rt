@@ -1,7 +1,7 @@
 //! What is to leave over a link.
 
 ghost use Rattle.std.specs.Prelude.{◌≡◌, ◌≤◌, ◌++◌, length, drop, IsTrue, IsFalse, OnOk, OnErr};
-ghost use Rattle.ws_links.specs.Sums.{capped};
+ghost use Rattle.ws_links.specs.inner.Sums.{capped};
 ghost use Rattle.ws_links.specs.Leaving.{frames_left, has_reply_first, first_left};
 
 use crate::buffer::Buffer;

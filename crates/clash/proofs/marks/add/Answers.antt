@@ -1,6 +1,6 @@
 use Rattle.std.proofs.Common.{◌≡◌, None, Some, cond, length, ap₂, subst, ◌∙◌}
 use Rattle.std.specs.BTreeMap.{is_at}
-use Rattle.clash.specs.Marks.{mark_cmp, place_of}
+use Rattle.clash.specs.inner.Marks.{mark_cmp, place_of}
 use Rattle.clash.proofs.MarkLaws.{AreListed-added}
 use Rattle.clash.proofs.marks.add.Goals as goal
 

@@ -4,7 +4,7 @@ use Rattle.commands.specs.Answers.{IsAnswer}
 use Rattle.commands.specs.Ends.{span, limit, limit_of, WasRead}
 use Rattle.commands.specs.Pastes.{IsPasteRefusal}
 use Rattle.commands.specs.Shelves.{IsInsertRefusal}
-use Rattle.commands.specs.declared.words.Command.{Command}
+use Rattle.commands.specs.declared.words.ProgramCommand.{ProgramCommand}
 use Rattle.commands.proofs.Judging.{judged-fault}
 use Rattle.commands.proofs.answer.answer.Goals as goal
 
@@ -29,7 +29,7 @@ returns-in_err-inserted-in-Insert-clause-fault g c =
 pub returns-in_ok-recovered_text-in-Recover-clause-text : goal.returns-in_ok-recovered_text-in-Recover-clause-text
 returns-in_ok-recovered_text-in-Recover-clause-text g c =
     let read = c.in_ok-head-in-Recover.ensures.recovered in
-    subst (λ (command : Command). (bytes : Items ℕ)
+    subst (λ (command : ProgramCommand). (bytes : Items ℕ)
     × WasRead (limit_of command) (span (g.S.Source.seen c.args.input.now) (g.S.Source.seen c.recovered.new.input))
     bytes
     × IsAnswer command bytes (Ok c.in_ok-recovered_text-in-Recover.field-0)) (sym c.in-Recover.is) (
@@ -50,7 +50,7 @@ pub returns-in_ok-shelved_text-in-Library-clause-text : goal.returns-in_ok-shelv
 returns-in_ok-shelved_text-in-Library-clause-text g c =
     let read = c.in_ok-shelf-in-Library.ensures.shelf in
     let made = c.in_ok-shelved_text-in-Library.ensures read.2.0 read.2.1 read.2.3 read.2.4 in
-    subst (λ (command : Command). (bytes : Items ℕ)
+    subst (λ (command : ProgramCommand). (bytes : Items ℕ)
     × WasRead (limit_of command) (span (g.S.Source.seen c.args.input.now) (g.S.Source.seen c.some_shelf.new.input))
     bytes
     × IsAnswer command bytes (Ok c.in_ok-shelved_text-in-Library.field-0)) (sym c.in-Library.is)

@@ -3,7 +3,7 @@ use Rattle.std.proofs.lemmas.Result.{err_from_is_err_and}
 use Rattle.intake.specs.Texts.{AreRead, HasTexts}
 use Rattle.commands.specs.Answers.{IsOneRefusal}
 use Rattle.commands.specs.Input.{HasScenes}
-use Rattle.commands.specs.Readers.{one_seen}
+use Rattle.commands.specs.inner.Readers.{one_seen}
 use Rattle.commands.specs.Ends.{limit}
 use Rattle.commands.proofs.Given.{unread}
 use Rattle.commands.proofs.Readers.{one-read, one-refused}

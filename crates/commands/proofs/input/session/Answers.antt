@@ -3,7 +3,7 @@ use Rattle.std.proofs.lemmas.Result.{err_from_is_err_and}
 use Rattle.intake.specs.Texts.{AreRead, HasTexts}
 use Rattle.session_text.specs.Taken.{texts_in}
 use Rattle.commands.specs.Answers.{IsSessionRefusal}
-use Rattle.commands.specs.SessionTexts.{session_refusal_of, session_seen}
+use Rattle.commands.specs.inner.SessionTexts.{session_refusal_of, session_seen}
 use Rattle.commands.specs.Ends.{limit}
 use Rattle.commands.proofs.Given.{unread}
 use Rattle.commands.proofs.SessionTexts.{session-read, session-refused}

@@ -4,7 +4,7 @@ use Rattle.intake.specs.Texts.{AreRead}
 use Rattle.commands.specs.Answers.{IsRefusal}
 use Rattle.commands.specs.Boards.{IsBoardOf}
 use Rattle.commands.specs.Input.{HasScenes}
-use Rattle.commands.specs.Readers.{AreJoined, BoardSoFar, board_seen, refusal_of}
+use Rattle.commands.specs.inner.Readers.{AreJoined, BoardSoFar, board_seen, refusal_of}
 use Rattle.scene_file.specs.Heads.{Heading, IsJoinedHead}
 use Rattle.commands.specs.Ends.{limit}
 use Rattle.commands.proofs.Given.{unread}

@@ -2,14 +2,14 @@ use Rattle.std.proofs.Common.{◌≡◌, ◌⊎◌, inl, inr, ℕ, List, Result,
 use Rattle.board_ends.specs.Counts.{Rose}
 use Rattle.board_ends.specs.Ends.{SourceEnd, SinkEnd}
 use Rattle.commands.specs.Answers.{IsAnswer}
-use Rattle.commands.specs.Causes.{HasCause}
+use Rattle.commands.specs.inner.Causes.{HasCause}
 use Rattle.commands.specs.Ends.{span, limit_of, EndsWith, HasLeft, WasDone}
 use Rattle.commands.specs.Faults.{status_of, Noted}
 use Rattle.commands.specs.declared.status.Fault.{Fault}
-use Rattle.commands.specs.declared.status.Refusal.{Refusal}
+use Rattle.commands.specs.declared.status.InputRefusal.{InputRefusal}
 use Rattle.commands.specs.declared.status.Status.{Status}
 use Rattle.commands.specs.declared.status.Status.TheVariants as status
-use Rattle.commands.specs.declared.words.Command.{Command}
+use Rattle.commands.specs.declared.words.ProgramCommand.{ProgramCommand}
 use Rattle.commands.specs.Words.{HasNames}
 use Rattle.commands.proofs.Answering.{fault-ends, long-cause, read-cause, refused-cause, text-ends, used-cause, write-cause}
 use Rattle.commands.proofs.Existing.{answer-exists}
@@ -18,11 +18,12 @@ use Rattle.commands.proofs.Given.{read-excludes, read-whole}
 use Rattle.commands.proofs.running.answer_run.Goals as goal
 
 -- the ends of runs over an input that tells its bytes
-module _ (command : Command) (bytes : List ℕ) (before after : SourceEnd) (out out_after notes notes_after : SinkEnd)
+module _ (command : ProgramCommand) (bytes : List ℕ) (before after : SourceEnd)
+    (out out_after notes notes_after : SinkEnd)
     (result : Status)
     (left : HasLeft (limit_of command) before bytes) where
   abbrev IsComplete : Type 0
-  IsComplete = (result ≡ status.Memory) ⊎ ((answer : Result (List ℕ) Refusal) × IsAnswer command bytes answer
+  IsComplete = (result ≡ status.Memory) ⊎ ((answer : Result (List ℕ) InputRefusal) × IsAnswer command bytes answer
       × EndsWith answer result (span out out_after) (span notes notes_after))
 
   complete-done : result ≡ status.Done → WasDone command (span before after) (span out out_after) → IsComplete
@@ -39,7 +40,7 @@ module _ (command : Command) (bytes : List ℕ) (before after : SourceEnd) (out 
       → (Rose before.faults after.faults → ⊥) → IsComplete
   complete-fault answers whole names f cause ended note reads = by (answer-exists answers whole command bytes names)
     where
-      by : (answer : Result (List ℕ) Refusal) × IsAnswer command bytes answer → IsComplete
+      by : (answer : Result (List ℕ) InputRefusal) × IsAnswer command bytes answer → IsComplete
       by (Ok text, answered) =
           elim (text-ends command bytes (Ok text) before after left answered text f out out_after refl cause reads) [
             | inl memory ↦ inl (ended ∙ memory)

@@ -7,10 +7,10 @@ use Rattle.commands.specs.Faults.{Noted, status_of}
 use Rattle.commands.specs.Keeping.{EndsKeeping}
 use Rattle.commands.specs.Serving.{EndsServing, ends}
 use Rattle.commands.specs.declared.status.Fault.{Fault}
-use Rattle.commands.specs.declared.status.Refusal.{Refusal}
+use Rattle.commands.specs.declared.status.InputRefusal.{InputRefusal}
 use Rattle.commands.specs.declared.status.Status.TheVariants.{Memory}
-use Rattle.commands.specs.declared.words.Command.{Command}
-use Rattle.commands.specs.declared.words.Command.TheVariants.{Replay}
+use Rattle.commands.specs.declared.words.ProgramCommand.{ProgramCommand}
+use Rattle.commands.specs.declared.words.ProgramCommand.TheVariants.{Replay}
 use Rattle.commands.specs.Words.{asked}
 use Rattle.commands.specs.declared.words.Keeping.{Keeping}
 use Rattle.commands.specs.declared.words.Request.TheVariants.{Drill, Keep, Serve}
@@ -41,20 +41,20 @@ pub returns-in-Ok-Answer-clause-complete : goal.returns-in-Ok-Answer-clause-comp
 returns-in-Ok-Answer-clause-complete g c command bytes is left reads =
     let same = same-answer c.in-Ok-Answer.command command
     (sym (c.in-Ok-Answer.ensures.asked ∙ ap Some c.in-Ok-Answer.field-0-is) ∙ is) in
-    subst (λ (own : Command). (c.answer_run.result ≡ Memory)
-    ⊎ ((answer : Result (List ℕ) Refusal) × IsAnswer own bytes answer
+    subst (λ (own : ProgramCommand). (c.answer_run.result ≡ Memory)
+    ⊎ ((answer : Result (List ℕ) InputRefusal) × IsAnswer own bytes answer
     × EndsWith answer c.answer_run.result
     (span (g.K.Sink.seen c.args.output.now) (g.K.Sink.seen c.answer_run.new.output))
     (span (g.N.Sink.seen c.args.notes.now) (g.N.Sink.seen c.answer_run.new.notes))))
     same (c.answer_run.ensures.complete bytes
-    (subst (λ (own : Command). HasLeft (limit_of own) (g.S.Source.seen c.args.input.now) bytes) (sym same) left)
+    (subst (λ (own : ProgramCommand). HasLeft (limit_of own) (g.S.Source.seen c.args.input.now) bytes) (sym same) left)
     reads)
 
 pub returns-in-Ok-Answer-clause-refused : goal.returns-in-Ok-Answer-clause-refused
 returns-in-Ok-Answer-clause-refused g c command is refused =
     let same = same-answer c.in-Ok-Answer.command command
     (sym (c.in-Ok-Answer.ensures.asked ∙ ap Some c.in-Ok-Answer.field-0-is) ∙ is) in
-    subst (λ (own : Command). (fault : Fault)
+    subst (λ (own : ProgramCommand). (fault : Fault)
     × WasRefused own fault (span (g.S.Source.seen c.args.input.now) (g.S.Source.seen c.answer_run.new.input))
     × Noted fault (g.N.Sink.seen c.args.notes.now) (g.N.Sink.seen c.answer_run.new.notes))
     same (c.answer_run.ensures.refused refused)
@@ -63,7 +63,7 @@ pub returns-in-Ok-Answer-clause-laws_of_a_replay : goal.returns-in-Ok-Answer-cla
 returns-in-Ok-Answer-clause-laws_of_a_replay g c is done =
     let same = same-answer c.in-Ok-Answer.command Replay (sym (c.in-Ok-Answer.ensures.asked
     ∙ ap Some c.in-Ok-Answer.field-0-is) ∙ is) in
-    replay-lawful c.replicas_hold.ensures.laws _ _ (subst (λ (own : Command). WasDone own
+    replay-lawful c.replicas_hold.ensures.laws _ _ (subst (λ (own : ProgramCommand). WasDone own
     (span (g.S.Source.seen c.args.input.now) (g.S.Source.seen c.answer_run.new.input))
     (span (g.K.Sink.seen c.args.output.now) (g.K.Sink.seen c.answer_run.new.output)))
     same (c.answer_run.ensures.done done))

@@ -3,7 +3,7 @@ use Rattle.std.specs.Option.{option_map, option_or}
 use Rattle.elem.specs.ElementValue.{ElementValue}
 use Rattle.effects.specs.declared.effect.Effect.{Effect}
 use Rattle.effects.specs.Changed.{OnFault, outcome, is_full, refusal_at}
-use Rattle.effects.specs.Prepared.{made_by}
+use Rattle.effects.specs.inner.Prepared.{made_by}
 use Rattle.effects.specs.Refusals.{refusal_of, existing, missing, misfit, guarded}
 use Rattle.effects.proofs.ChangedLaws.{changes-rise, created-distinct, new-apart, outcome-refused, outcome-full, outcome-ok, guarded-none}
 use Rattle.effects.proofs.FindingLaws.{seen-distinct}

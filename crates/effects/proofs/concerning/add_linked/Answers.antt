@@ -1,6 +1,6 @@
 -- What is left when none is left is nothing.
 use Rattle.std.proofs.Common.{subst, sym}
-use Rattle.effects.specs.Concerning.{HaveLinked}
+use Rattle.effects.specs.inner.Concerning.{HaveLinked}
 use Rattle.effects.proofs.ConcerningLaws.{linked-cons, linked-none}
 use Rattle.effects.proofs.concerning.add_linked.Goals as goal
 

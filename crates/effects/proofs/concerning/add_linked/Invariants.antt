@@ -1,4 +1,4 @@
-use Rattle.effects.specs.Concerning.{HaveLinked, IsWithin}
+use Rattle.effects.specs.inner.Concerning.{HaveLinked, IsWithin}
 use Rattle.effects.proofs.ConcerningLaws.{Ids}
 use Rattle.effects.proofs.concerning.add_linked.Given as goal
 

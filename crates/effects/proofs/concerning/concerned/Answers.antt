@@ -4,7 +4,7 @@ use Rattle.std.specs.BTreeMap.{get}
 use Rattle.std.specs.Cmp.Lexicographic.{slice_cmp}
 use Rattle.links.specs.Names.{is_id, target_of}
 use Rattle.effects.specs.declared.effect.Effect.{Effect}
-use Rattle.effects.specs.Concerning.{DeletesLive, HasNamers, HaveLinked}
+use Rattle.effects.specs.inner.Concerning.{DeletesLive, HasNamers, HaveLinked}
 use Rattle.effects.proofs.ConcerningLaws.{Ids, has, leaves-from, both-ok, others-settle, others-place, others-set, others-link, others-label, others-unlabel, others-frame, others-group, others-ungroup, deleted-others}
 use Rattle.effects.proofs.concerning.concerned.Goals as goal
 

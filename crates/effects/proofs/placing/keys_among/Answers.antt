@@ -1,6 +1,6 @@
 use Rattle.std.proofs.Common.{◌<◌, ◌++◌, ◌∷◌, [], length, take, sym, ap, ◌∙◌, subst, arith}
 use Rattle.std.proofs.lemmas.List.{nil_from_length, take_more}
-use Rattle.effects.specs.Prepared.{HasKeys, elements_among}
+use Rattle.effects.specs.inner.Prepared.{HasKeys, elements_among}
 use Rattle.effects.proofs.PlacingLaws.{keys-none}
 use Rattle.effects.proofs.placing.keys_among.Goals as goal
 

@@ -1,5 +1,5 @@
 use Rattle.std.proofs.Common.{take}
-use Rattle.effects.specs.Prepared.{HasKeys, elements_among}
+use Rattle.effects.specs.inner.Prepared.{HasKeys, elements_among}
 use Rattle.effects.proofs.placing.keys_among.Given as goal
 
 abbrev pub invariant-loop-e : goal.invariant-loop-e

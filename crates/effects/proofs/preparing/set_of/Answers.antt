@@ -1,6 +1,6 @@
 use Rattle.std.proofs.Common.{◌<◌, ◌++◌, ◌∷◌, [], length, get_or, take, sym, ap, ◌∙◌, subst, arith}
 use Rattle.std.proofs.lemmas.List.{take_more}
-use Rattle.effects.specs.Prepared.{HasIds}
+use Rattle.effects.specs.inner.Prepared.{HasIds}
 use Rattle.effects.proofs.PreparingLaws.{HasIds-more}
 use Rattle.effects.proofs.preparing.set_of.Goals as goal
 

@@ -1,6 +1,6 @@
 use Rattle.std.proofs.Common.{sym, ap, ◌∙◌}
 use Rattle.std.specs.Option.{option_copied}
-use Rattle.effects.specs.Prepared.{made_by}
+use Rattle.effects.specs.inner.Prepared.{made_by}
 use Rattle.effects.proofs.WalkingLaws.{full-at}
 use Rattle.effects.proofs.walking.change_at.Goals as goal
 

@@ -1,6 +1,6 @@
 use Rattle.std.proofs.Common.{◌≡◌, true, sym, ◌∙◌, rules}
 use Rattle.effects.specs.Changed.{OnFault, is_full, refusal_at}
-use Rattle.effects.specs.Prepared.{made_by}
+use Rattle.effects.specs.inner.Prepared.{made_by}
 use Rattle.effects.specs.declared.refusal.Refusal.{Refusal}
 use Rattle.elem.specs.Facts.{greatest_whole}
 use Rattle.effects.proofs.FirstLaws.{OnFault-weaker}

@@ -1,6 +1,6 @@
 use Rattle.std.proofs.Common.{sym, ◌∙◌}
 use Rattle.std.proofs.lemmas.Bool.{false≢true}
-use Rattle.effects.specs.Prepared.{made_by}
+use Rattle.effects.specs.inner.Prepared.{made_by}
 use Rattle.effects.proofs.WalkingLaws.{told-none, told-same, told-other}
 use Rattle.effects.proofs.walking.changed.Goals as goal
 

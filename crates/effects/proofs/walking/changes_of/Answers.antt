@@ -3,8 +3,8 @@ use Rattle.std.proofs.Common.{◌≡◌, ◌++◌, true, Some, find, sym, ap, �
 use Rattle.std.specs.List.{filter_map}
 use Rattle.std.specs.Option.{option_map}
 use Rattle.effects.specs.Changed.{OnFault, is_full, refusal_at}
-use Rattle.effects.specs.Concerning.{change_at, is_full_at}
-use Rattle.effects.specs.Prepared.{made_by}
+use Rattle.effects.specs.inner.Concerning.{change_at, is_full_at}
+use Rattle.effects.specs.inner.Prepared.{made_by}
 use Rattle.effects.specs.declared.refusal.Refusal.{Refusal}
 use Rattle.effects.specs.declared.refusal.Refusal.TheVariants.{VersionFull}
 use Rattle.effects.proofs.ChosenLaws.{changes-walked, full-walked}

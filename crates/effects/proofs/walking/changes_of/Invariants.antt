@@ -1,7 +1,7 @@
 use Rattle.std.proofs.Common.{◌≡◌, ◌++◌, find}
 use Rattle.std.specs.List.{filter_map}
-use Rattle.effects.specs.Concerning.{change_at, is_full_at}
-use Rattle.effects.specs.Prepared.{made_by}
+use Rattle.effects.specs.inner.Concerning.{change_at, is_full_at}
+use Rattle.effects.specs.inner.Prepared.{made_by}
 use Rattle.effects.proofs.walking.changes_of.Given as goal
 
 -- what is changed and what comes of the ids that are left is all

@@ -1,6 +1,6 @@
 use Rattle.std.proofs.Common.{ap, ◌∙◌, subst}
 use Rattle.elem.specs.Facts.{IsElement}
-use Rattle.elem.specs.Printing.{headers_of}
+use Rattle.elem.specs.inner.Printing.{headers_of}
 use Rattle.elem.proofs.Leaving.{element_left}
 use Rattle.elem.proofs.cursor.members_of.Goals as goal
 

@@ -1,7 +1,7 @@
 use Rattle.std.proofs.Common.{◌≡◌, [], ◌∷◌, map}
 use Rattle.std.proofs.lemmas.List.{nil_from_length}
-use Rattle.elem.specs.Left.{value_left}
-use Rattle.elem.specs.Printing.{members_below, header_name, header_pair}
+use Rattle.elem.specs.inner.Left.{value_left}
+use Rattle.elem.specs.inner.Printing.{members_below, header_name, header_pair}
 use Rattle.elem.proofs.Leaving.{header-splits}
 use Rattle.elem.proofs.cursor.next_of.Goals as goal
 

@@ -1,6 +1,6 @@
 use Rattle.std.proofs.Common.{◌≡◌, [], ◌∙◌, refl, ap, sym, subst}
 use Rattle.std.proofs.lemmas.List.{nil_from_length}
-use Rattle.elem.specs.Printing.{members_below}
+use Rattle.elem.specs.inner.Printing.{members_below}
 use Rattle.elem.proofs.Merging.{Passed, passed-more, passed-named}
 use Rattle.elem.proofs.object.push_below.Goals as goal
 

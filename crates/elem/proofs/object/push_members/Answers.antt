@@ -4,7 +4,7 @@ use Rattle.std.proofs.lemmas.List.Elements.{All-more, All-same, All-nil}
 use Rattle.json_text.specs.Compact.{member_text}
 use Rattle.json_text.specs.Members.{pairs, pair_of}
 use Rattle.json_text.specs.declared.text.Member.{Member}
-use Rattle.elem.specs.Printing.{IsBegun}
+use Rattle.elem.specs.inner.Printing.{IsBegun}
 use Rattle.elem.proofs.Appending.{extends_same, extends_by, extends_then}
 use Rattle.elem.proofs.Merging.{opened-step, members-more}
 use Rattle.elem.proofs.object.push_members.Goals as goal

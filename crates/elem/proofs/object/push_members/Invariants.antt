@@ -4,7 +4,7 @@ use Rattle.std.specs.Str.{IsUtf8}
 use Rattle.json_text.specs.Appending.{Extends}
 use Rattle.json_text.specs.Compact.{Member as Pair}
 use Rattle.json_text.specs.Members.{pairs}
-use Rattle.elem.specs.Printing.{IsBegun}
+use Rattle.elem.specs.inner.Printing.{IsBegun}
 use Rattle.elem.proofs.object.push_members.Given as goal
 
 abbrev pub invariant-loop-member : goal.invariant-loop-member

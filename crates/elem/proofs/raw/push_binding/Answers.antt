@@ -10,7 +10,7 @@ use Rattle.json_text.specs.declared.text.Member.{Member}
 use Rattle.json_text.specs.Value.{IsCompact}
 use Rattle.scene_json.proofs.CallerLemmas.{pairs-each}
 use Rattle.elem.specs.Facts.{IsBinding}
-use Rattle.elem.specs.Printing.{IsBegun}
+use Rattle.elem.specs.inner.Printing.{IsBegun}
 use Rattle.elem.specs.Texts.{sorted_members}
 use Rattle.elem.proofs.Headers.{target_pair, merged-binding, binding-rises}
 use Rattle.elem.proofs.Merging.{Merged, begun-step, merging-from, merging-step, merging-closed, length-merged, sound-compact}

@@ -11,7 +11,7 @@ use Rattle.elem.specs.declared.header.Header.{Header}
 use Rattle.elem.specs.declared.header.Header.TheVariants.{BoundElements}
 use Rattle.elem.specs.ElementValue.{ElementValue}
 use Rattle.elem.specs.Facts.{IsElement}
-use Rattle.elem.specs.Printing.{header_name, header_pair, headers_of}
+use Rattle.elem.specs.inner.Printing.{header_name, header_pair, headers_of}
 use Rattle.elem.specs.Texts.{element_members}
 use Rattle.elem.proofs.Headers.{header_pairs, merged-element, length-members, element-compact, element-rises}
 use Rattle.elem.proofs.Merging.{Merging, Merged, merging-from, merging-step, merging-closed}

@@ -2,7 +2,7 @@
 use Rattle.std.proofs.Common.{map, drop}
 use Rattle.elem.proofs.Headers.{header_pairs}
 use Rattle.elem.proofs.Merging.{Merging}
-use Rattle.elem.specs.Printing.{header_pair}
+use Rattle.elem.specs.inner.Printing.{header_pair}
 use Rattle.elem.proofs.raw.push_element_parts.Given as goal
 
 abbrev pub invariant-loop-header : goal.invariant-loop-header

@@ -1,7 +1,7 @@
 use Rattle.std.proofs.Common.{[], ◌∷◌, ◌++◌, ap}
 use Rattle.std.proofs.lemmas.Result.{on_ok_weaker}
 use Rattle.json_text.specs.Characters.{quote}
-use Rattle.elem.specs.Printing.{header_name, header_value}
+use Rattle.elem.specs.inner.Printing.{header_name, header_value}
 use Rattle.elem.proofs.Merging.{begun-step}
 use Rattle.elem.proofs.raw.push_header.Goals as goal
 

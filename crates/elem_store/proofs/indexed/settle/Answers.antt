@@ -1,6 +1,6 @@
 -- The last late place goes before the settled ones that stand behind its gap.
 use Rattle.std.proofs.Common.{◌≡◌, ◌+◌, ◌++◌, ◌∷◌, [], length, ap, ◌∙◌, subst, arith, length-set, length-append}
-use Rattle.elem_store.specs.Indexed.{AreGaps}
+use Rattle.elem_store.specs.inner.Indexed.{AreGaps}
 use Rattle.elem_store.proofs.Woven.{gaps-last, gap-last, settled-more}
 use Rattle.elem_store.proofs.indexed.settle.Goals as goal
 

@@ -1,5 +1,5 @@
 use Rattle.std.proofs.Common.{◌≡◌, ◌+◌, ◌≤◌, ◌++◌, length, take, drop, vec_capacity, vec_len}
-use Rattle.elem_store.specs.Indexed.{woven, AreGaps}
+use Rattle.elem_store.specs.inner.Indexed.{woven, AreGaps}
 use Rattle.elem_store.proofs.indexed.settle.Given as goal
 
 -- the late places that are left come among the settled ones below the end; those behind their room stand as they will

@@ -1,6 +1,6 @@
 -- The comparison at the middle tells on which side the id is; a settled place is there.
 use Rattle.std.proofs.Common.{◌≡◌, ◌+◌, ◌-◌, ◌/◌, Some, slice_get, sym, ◌∙◌, arith}
-use Rattle.elem_store.specs.Indexed.{woven}
+use Rattle.elem_store.specs.inner.Indexed.{woven}
 use Rattle.elem_store.proofs.Placed.{between-less, between-greater, searched-found, searched-gap}
 use Rattle.elem_store.proofs.Woven.{settled-at}
 use Rattle.elem_store.proofs.places.find_among.Goals as goal

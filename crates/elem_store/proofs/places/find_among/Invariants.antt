@@ -1,5 +1,5 @@
 use Rattle.std.proofs.Common.{◌+◌, ◌-◌, ◌≤◌}
-use Rattle.elem_store.specs.Indexed.{woven}
+use Rattle.elem_store.specs.inner.Indexed.{woven}
 use Rattle.elem_store.specs.Places.{IsBetween}
 use Rattle.elem_store.proofs.places.find_among.Given as goal
 

@@ -1,7 +1,7 @@
 -- The comparison at the middle of the late places tells on which side of it the id is, among all.
 use Rattle.std.proofs.Common.{◌≡◌, ◌+◌, ◌-◌, ◌/◌, length, Some, slice_get, sym, ap, ◌∙◌, arith}
 use Rattle.elem_store.specs.declared.indexed.Late.{Late}
-use Rattle.elem_store.specs.Indexed.{woven}
+use Rattle.elem_store.specs.inner.Indexed.{woven}
 use Rattle.elem_store.proofs.Placed.{between-less, between-greater, searched-found}
 use Rattle.elem_store.proofs.Woven.{length-woven, late-at, before-middle, after-middle}
 use Rattle.elem_store.proofs.places.find_late.Goals as goal

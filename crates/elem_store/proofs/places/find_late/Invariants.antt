@@ -1,5 +1,5 @@
 use Rattle.std.proofs.Common.{◌+◌, ◌-◌, ◌≤◌, vec_len}
-use Rattle.elem_store.specs.Indexed.{woven, AreAside}
+use Rattle.elem_store.specs.inner.Indexed.{woven, AreAside}
 use Rattle.elem_store.specs.Places.{IsBetween}
 use Rattle.elem_store.proofs.places.find_late.Given as goal
 

@@ -1,5 +1,5 @@
 use Rattle.std.proofs.Common.{sym, ap, ◌∙◌}
-use Rattle.json_reader.specs.Places.{mark_of}
+use Rattle.json_reader.specs.inner.Places.{mark_of}
 use Rattle.json_reader.proofs.Placing.{seen_more}
 use Rattle.json_reader.proofs.collapsing.are_distinct.Goals as goal
 

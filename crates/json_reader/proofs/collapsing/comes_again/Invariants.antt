@@ -1,7 +1,7 @@
 use Rattle.std.proofs.Common.{◌≡◌, bytes_eq, drop}
 use Rattle.std.specs.List.{list_any}
 use Rattle.json_text.specs.Parts.{names_of}
-use Rattle.json_reader.specs.Places.{entries}
+use Rattle.json_reader.specs.inner.Places.{entries}
 use Rattle.json_reader.proofs.collapsing.comes_again.Given as goal
 
 abbrev pub invariant-loop-place : goal.invariant-loop-place

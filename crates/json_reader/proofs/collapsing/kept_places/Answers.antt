@@ -3,7 +3,7 @@ use Rattle.std.proofs.lemmas.Map.Text.{btree_map_updates_str}
 use Rattle.std.specs.BTreeMap.{get_by}
 use Rattle.std.specs.Cmp.Lexicographic.{slice_cmp}
 use Rattle.std.specs.Ordering.{nat_cmp}
-use Rattle.json_reader.specs.Places.{cut}
+use Rattle.json_reader.specs.inner.Places.{cut}
 use Rattle.json_reader.proofs.Placing.{nowhere, first_within, kept_last, kept_new}
 use Rattle.json_reader.proofs.collapsing.kept_places.Goals as goal
 use Rattle.json_reader.proofs.collapsing.kept_places.Goals.{After-copied, in-Some, in-None+in_ok-insert-in-None+in_ok-push-in-None}

@@ -1,5 +1,5 @@
 use Rattle.std.proofs.Common.{◌≡◌, take}
-use Rattle.json_reader.specs.Places.{entries}
+use Rattle.json_reader.specs.inner.Places.{entries}
 use Rattle.json_reader.proofs.Drafting.{commas}
 use Rattle.json_reader.proofs.collapsing.text_of.Given as goal
 

@@ -1,5 +1,5 @@
 use Rattle.std.proofs.Common.{◌≡◌, ◌+◌, ℕ, rules, refl, arith}
-use Rattle.json_reader.specs.Writing.{HasRead}
+use Rattle.json_reader.specs.inner.Writing.{HasRead}
 use Rattle.json_reader.proofs.reader.finish_string.Goals as goal
 use Rattle.json_reader.proofs.reader.finish_string.Goals.{In_ok-put, then-next-bytes-via-then-next-bytes, then-next-bytes-via-else-next-bytes+then-not-end_name}
 

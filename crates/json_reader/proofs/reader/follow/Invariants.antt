@@ -1,5 +1,5 @@
 use Rattle.std.proofs.Common.{◌-◌, length}
-use Rattle.json_reader.specs.Writing.{ReadsOn}
+use Rattle.json_reader.specs.inner.Writing.{ReadsOn}
 use Rattle.json_reader.proofs.reader.follow.Given as goal
 
 abbrev pub invariant-loop-next : goal.invariant-loop-next

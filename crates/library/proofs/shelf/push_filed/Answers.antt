@@ -1,6 +1,6 @@
 use Rattle.std.proofs.Common.{◌≡◌, ◌++◌, drop, map, take, sym, ap, ◌∙◌, append-nil}
 use Rattle.std.specs.List.{join_with_byte}
-use Rattle.library.specs.Filed.{items_in}
+use Rattle.library.specs.inner.Filed.{items_in}
 use Rattle.library.specs.Items.{item_text}
 use Rattle.library.proofs.ItemTexts.{item-turn, items-through}
 use Rattle.library.proofs.shelf.push_filed.Goals as goal

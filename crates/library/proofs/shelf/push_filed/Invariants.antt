@@ -1,7 +1,7 @@
 -- the texts of the items so far stand between commas
 use Rattle.std.proofs.Common.{◌≡◌, ◌++◌, drop, map, take}
 use Rattle.std.specs.List.{join_with_byte}
-use Rattle.library.specs.Filed.{items_in}
+use Rattle.library.specs.inner.Filed.{items_in}
 use Rattle.library.specs.Items.{item_text}
 use Rattle.library.proofs.shelf.push_filed.Given as goal
 

@@ -1,5 +1,5 @@
 use Rattle.std.proofs.Common.{sym, ◌∙◌}
-use Rattle.library.specs.Filed.{items_in}
+use Rattle.library.specs.inner.Filed.{items_in}
 use Rattle.library.proofs.BestLaws.{HasPut-not}
 use Rattle.library.proofs.FiledLaws.{filed-put, put-known, put-new}
 use Rattle.library.proofs.shelf.put_among.Goals as goal

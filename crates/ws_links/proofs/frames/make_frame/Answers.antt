@@ -1,6 +1,6 @@
 -- The text stands at the end of its frame.
 use Rattle.std.proofs.Common.{◌∙◌, ◌-◌, sym, ap, ap₂, length, drop}
-use Rattle.ws_links.specs.Texts.{frame_of_text}
+use Rattle.ws_links.specs.inner.Texts.{frame_of_text}
 use Rattle.ws_links.proofs.Framing.{text-at-end}
 use Rattle.ws_links.proofs.frames.make_frame.Goals as goal
 

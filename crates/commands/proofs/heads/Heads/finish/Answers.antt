@@ -1,5 +1,5 @@
 use Rattle.std.proofs.Common.{refl, sym, subst}
-use Rattle.commands.specs.Readers.{AreJoined, HeadsSoFar}
+use Rattle.commands.specs.inner.Readers.{AreJoined, HeadsSoFar}
 use Rattle.commands.proofs.Joining.{joined-head}
 use Rattle.commands.proofs.heads.Heads.finish.Goals as goal
 

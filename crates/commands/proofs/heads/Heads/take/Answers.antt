@@ -1,6 +1,6 @@
 use Rattle.std.proofs.Common.{◌∙◌, ap₂, sym, subst}
 use Rattle.scene_file.specs.Heads.{lesser_source}
-use Rattle.commands.specs.Readers.{AreJoined, HeadsSoFar}
+use Rattle.commands.specs.inner.Readers.{AreJoined, HeadsSoFar}
 use Rattle.commands.proofs.Joining.{joined-more, TakesAll}
 use Rattle.commands.proofs.heads.Heads.take.Goals as goal
 

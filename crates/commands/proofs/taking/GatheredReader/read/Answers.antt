@@ -1,6 +1,6 @@
 use Rattle.std.proofs.Common.{sym, subst}
 use Rattle.elem_store.specs.Updates.{AreStored}
-use Rattle.commands.specs.Readers.{BoardSoFar, SayBoard}
+use Rattle.commands.specs.inner.Readers.{BoardSoFar, SayBoard}
 use Rattle.commands.proofs.Readers.{board-more, later-number}
 use Rattle.commands.proofs.taking.GatheredReader.read.Goals as goal
 

@@ -1,5 +1,5 @@
 use Rattle.std.proofs.Common.{rules, List, ℕ, [], ◌∷◌, ◌++◌, sym, subst}
-use Rattle.commands.specs.Readers.{SayScenes}
+use Rattle.commands.specs.inner.Readers.{SayScenes}
 use Rattle.commands.proofs.Readers.{one-open}
 use Rattle.commands.proofs.taking.OneSceneReader.read.Goals as goal
 

@@ -1,7 +1,7 @@
 use Rattle.std.proofs.Common.{◌≡◌, false, sym, subst}
 use Rattle.std.proofs.lemmas.Result.{on_ok_weaker, IfErr-at_err}
 use Rattle.session_text.specs.Taken.{IsNextFault, is_full}
-use Rattle.commands.specs.SessionTexts.{SaySession}
+use Rattle.commands.specs.inner.SessionTexts.{SaySession}
 use Rattle.commands.proofs.SessionTexts.{say-taken, taken-some}
 use Rattle.commands.proofs.taking.OneSessionReader.read.Goals as goal
 

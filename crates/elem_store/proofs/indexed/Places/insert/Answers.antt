@@ -1,6 +1,6 @@
 -- There are as many places as settled and late ones.
 use Rattle.std.proofs.Common.{length, ap, arith}
-use Rattle.elem_store.specs.Indexed.{PlaceList}
+use Rattle.elem_store.specs.inner.Indexed.{PlaceList}
 use Rattle.elem_store.proofs.Woven.{length-woven}
 use Rattle.elem_store.proofs.indexed.Places.insert.Goals as goal
 

@@ -1,7 +1,7 @@
 -- Fronts that differ decide.
 use Rattle.std.proofs.Common.{◌≡◌, Some, Less, Greater, map, slice_get, sym, ap, ◌∙◌}
 use Rattle.board_base.proofs.CallerLemmas.{not_less, not_greater}
-use Rattle.elem_store.specs.Fronts.{front_at}
+use Rattle.elem_store.specs.inner.Fronts.{front_at}
 use Rattle.elem_store.proofs.Fronts.{placed-decides}
 use Rattle.elem_store.proofs.shelf.Shelf.order_at.Goals as goal
 use Rattle.elem_store.proofs.shelf.Shelf.order_at.Goals.{In-Some}

@@ -1,7 +1,7 @@
 use Rattle.std.proofs.Common.{◌≡◌, set, sym, ap, ap₂, ◌∙◌}
 use Rattle.std.proofs.lemmas.List.{map-set}
 use Rattle.board_base.specs.Fronts.{front_of}
-use Rattle.elem_store.specs.Fronts.{front_at}
+use Rattle.elem_store.specs.inner.Fronts.{front_at}
 use Rattle.elem_store.proofs.shelf.Shelf.set.Goals as goal
 
 pub invariant_of-self : goal.invariant_of-self

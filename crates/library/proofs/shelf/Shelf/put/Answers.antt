@@ -1,6 +1,6 @@
 use Rattle.std.proofs.Common.{sym, ◌∙◌}
 use Rattle.std.proofs.lemmas.Result.{on_ok_weaker}
-use Rattle.library.specs.Filed.{items_in}
+use Rattle.library.specs.inner.Filed.{items_in}
 use Rattle.library.proofs.BestLaws.{AreBest-put}
 use Rattle.library.proofs.FiledLaws.{filed-is}
 use Rattle.library.proofs.shelf.Shelf.put.Goals as goal

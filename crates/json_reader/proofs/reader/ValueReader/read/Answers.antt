@@ -1,9 +1,9 @@
 use Rattle.std.proofs.Common.{List, [], ℕ, ◌++◌, drop, drop-cons, append-nil, arith, sym, ◌∙◌}
-use Rattle.json_reader.specs.Writing.{Ends}
+use Rattle.json_reader.specs.inner.Writing.{Ends}
 use Rattle.json_reader.proofs.Written.{has-ended}
 use Rattle.json_reader.proofs.Outcomes.{over_ends}
-use Rattle.json_reader.proofs.reader.Reader.read.Goals as goal
-use Rattle.json_reader.proofs.reader.Reader.read.Goals.{In-Ended}
+use Rattle.json_reader.proofs.reader.ValueReader.read.Goals as goal
+use Rattle.json_reader.proofs.reader.ValueReader.read.Goals.{In-Ended}
 
 pub loop-next-preserved : goal.loop-next-preserved
 loop-next-preserved c =

@@ -20,8 +20,8 @@ pub use Rattle.json_reader.specs.declared.machine.Letters.TheVariants.{Ull, Ll, 
 pub use Rattle.json_reader.specs.declared.machine.Mode.{Mode}
 pub use Rattle.json_reader.specs.declared.machine.Mode.TheVariants.{Fresh, Name, Colon, After, Quoted, Number, Word}
 pub use Rattle.json_reader.specs.declared.machine.Machine.{Machine}
-pub use Rattle.json_reader.specs.declared.machine.Step.{Step}
-pub use Rattle.json_reader.specs.declared.machine.Step.TheVariants.{On, Ended, Refused}
+pub use Rattle.json_reader.specs.declared.machine.Progress.{Progress}
+pub use Rattle.json_reader.specs.declared.machine.Progress.TheVariants.{On, Ended, Refused}
 pub use Rattle.json_reader.specs.declared.machine.Move.{Move}
 pub use Rattle.json_reader.specs.declared.machine.Move.TheVariants.{To, Open, Close, End, Refuse}
 
@@ -281,7 +281,7 @@ fault_of (Quoted r place) top byte n = string_fault place byte n
 fault_of m top byte n = bracket_fault m top byte n
 
 -- What a step of the code said: gone on, the value has ended before the byte, or refused.
-abbrev pub Stepped : Machine → Machine → Step → ℕ → Type 0
+abbrev pub Stepped : Machine → Machine → Progress → ℕ → Type 0
 Stepped old new On b = step 128 old.mode old.brackets b ≡ state new.mode new.brackets
 Stepped old new Ended b = (step 128 old.mode old.brackets b ≡ ended b) × (new ≡ old)
 Stepped old new Refused b = (step 128 old.mode old.brackets b ≡ refused) × (new ≡ old)

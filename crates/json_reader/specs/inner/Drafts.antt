@@ -3,9 +3,9 @@
 use Rattle.std.specs.Prelude.{◌≡◌, ℕ, ◌+◌, List, [], ◌∷◌, ◌++◌, Option, None, Some, length, map}
 use Rattle.std.specs.List.{join_with_byte}
 use Rattle.json_text.specs.Compact.{Member, collapsed}
-use Rattle.json_reader.specs.Places.{entries, AreWithin}
+use Rattle.json_reader.specs.inner.Places.{entries, AreWithin}
 use Rattle.json_reader.specs.declared.collapsing.Span.{Span}
-use Rattle.json_reader.specs.declared.collapsing.Place.{Place}
+use Rattle.json_reader.specs.declared.collapsing.MemberPlace.{MemberPlace}
 
 -- a member whose name is quoted, and members between commas
 abbrev pub pair_text : Member → List ℕ
@@ -21,7 +21,7 @@ pub record Drafted : Type 0 where
   pub text : List ℕ
   pub from : ℕ
   pub name : Option Span
-  pub places : List Place
+  pub places : List MemberPlace
   pub level : ℕ
 
 -- nothing is written
@@ -33,12 +33,12 @@ abbrev pub grown : Drafted → List ℕ → Drafted
 grown draft more = record draft { text = draft.text ++ more }
 
 -- the places with that of the member of this name and value, if there is a name
-abbrev pub placed : List Place → Option Span → Span → List Place
+abbrev pub placed : List MemberPlace → Option Span → Span → List MemberPlace
 placed places None value = places
 placed places (Some name) value = places ++ record { name = name; value = value } ∷ []
 
 -- the places where a member ends at an offset
-abbrev pub placed_to : ℕ → Drafted → List Place
+abbrev pub placed_to : ℕ → Drafted → List MemberPlace
 placed_to end draft = placed draft.places draft.name (record { start = draft.from; end = end })
 
 -- a name ends at an offset, or a member

@@ -7,10 +7,10 @@ use Rattle.json_text.specs.Compact.{compact}
 use Rattle.json_text.specs.Walk.{Place, outside, inside, place_of, Quoted}
 use Rattle.json_text.specs.Tree.{Tree, IsGood, spelling}
 use Rattle.json_text.specs.Value.{Stands, extends_number}
-use Rattle.json_reader.specs.Drafts.{Drafted, fresh, grown, named, parted, closed, IsWhole}
-use Rattle.json_reader.specs.Machine.{Bracket, JsonFault, Machine, Mode, state, ended, refused, top, step, fault_of}
-use Rattle.json_reader.specs.Runs.{run, start, is_over, IsKept}
-pub use Rattle.json_reader.specs.declared.reader.Reader.{Reader}
+use Rattle.json_reader.specs.inner.Drafts.{Drafted, fresh, grown, named, parted, closed, IsWhole}
+use Rattle.json_reader.specs.inner.Machine.{Bracket, JsonFault, Machine, Mode, state, ended, refused, top, step, fault_of}
+use Rattle.json_reader.specs.inner.Runs.{run, start, is_over, IsKept}
+pub use Rattle.json_reader.specs.declared.reader.ValueReader.{ValueReader}
 use Rattle.json_reader.specs.declared.reader.Taken.{Taken}
 use Rattle.json_reader.specs.declared.reader.Taken.TheVariants as taken
 use Rattle.json_reader.specs.declared.staying.Ground.{Ground}
@@ -168,7 +168,7 @@ ReadsOn bytes next machine writer end after written =
     → HasRead bytes at end after written)
 
 -- what a reader has read of these bytes from an offset on
-abbrev pub IsRead : List ℕ → ℕ → Reader → Type 0
+abbrev pub IsRead : List ℕ → ℕ → ValueReader → Type 0
 IsRead bytes at reader = HasRead bytes at reader.next reader.machine reader.writer
 
 -- The value has ended before these bytes, or ends before white space where there are none.

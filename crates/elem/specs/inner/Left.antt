@@ -11,7 +11,7 @@ use Rattle.elem.specs.declared.source.Source.{Source}
 use Rattle.elem.specs.declared.value.Value.{Value}
 use Rattle.elem.specs.declared.value.Value.TheVariants.{Nothing, Texts, Listing, Target, Members}
 use Rattle.elem.specs.declared.value.Start.{Start}
-use Rattle.elem.specs.Printing.{header_pair, merged}
+use Rattle.elem.specs.inner.Printing.{header_pair, merged}
 use Rattle.elem.specs.Texts.{bound_text}
 
 -- a list from here on, whose items have commas between them: at its first item, or behind one

@@ -10,8 +10,8 @@ use Rattle.intake.specs.declared.reading.Stopped.TheVariants.{Faulty, Refused, E
 use Rattle.scene_file.specs.Heads.{Heading, least_source, settings_of, files_of}
 use Rattle.scene_file.specs.Reading.{IsSceneOf, IsSceneFault}
 use Rattle.commands.specs.Boards.{heads_of, updates_of}
-use Rattle.commands.specs.declared.status.Refusal.{Refusal}
-use Rattle.commands.specs.declared.status.Refusal.TheVariants as refusal
+use Rattle.commands.specs.declared.status.InputRefusal.{InputRefusal}
+use Rattle.commands.specs.declared.status.InputRefusal.TheVariants as refusal
 use Rattle.scene_file.specs.declared.scene.Scene.{Scene}
 use Rattle.scene_file.specs.declared.fault.SceneFault.{SceneFault}
 use Rattle.scene_file.specs.declared.fault.SceneFault.TheVariants.{Json}
@@ -75,7 +75,7 @@ one_seen scene = record {
 }
 
 -- what an input is refused for whose text with this number isn't read
-abbrev pub refusal_of : ℕ → Stopped SceneFault → Refusal
+abbrev pub refusal_of : ℕ → Stopped SceneFault → InputRefusal
 refusal_of number (Faulty fault) = refusal.Text number (Json fault)
 refusal_of number (Refused fault) = refusal.Text number fault
 refusal_of number (Extra place) = refusal.Extra place

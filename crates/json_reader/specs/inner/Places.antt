@@ -3,16 +3,16 @@ use Rattle.std.specs.Prelude.{ℕ, ◌+◌, ◌-◌, ◌*◌, ◌/◌, ◌%◌, 
 use Rattle.json_text.specs.Characters.{quote}
 use Rattle.json_text.specs.Compact.{Member}
 use Rattle.json_reader.specs.declared.collapsing.Span.{Span}
-pub use Rattle.json_reader.specs.declared.collapsing.Place.{Place}
+pub use Rattle.json_reader.specs.declared.collapsing.MemberPlace.{MemberPlace}
 
 abbrev pub cut : List ℕ → Span → List ℕ
 cut bytes span = take (span.end - span.start) (drop span.start bytes)
 
 -- the quoted name and the value of the member that stands there
-abbrev pub entry : List ℕ → Place → Member
+abbrev pub entry : List ℕ → MemberPlace → Member
 entry bytes place = (cut bytes place.name, cut bytes place.value)
 
-abbrev pub entries : List ℕ → List Place → List Member
+abbrev pub entries : List ℕ → List MemberPlace → List Member
 entries bytes places = map (entry bytes) places
 
 -- a number below 256 by the length of a quoted name, its last byte and one in its middle
@@ -24,10 +24,10 @@ mark_of name = if nat_lt (length name) 2 then 0 else
 abbrev pub IsWithin : ℕ → Span → Type 0
 IsWithin size span = (span.start ≤ span.end) × (span.end ≤ size)
 
-abbrev pub IsPlaced : ℕ → Place → Type 0
+abbrev pub IsPlaced : ℕ → MemberPlace → Type 0
 IsPlaced size place = IsWithin size place.name × IsWithin size place.value
 
-abbrev pub AreWithin : ℕ → List Place → Type 0
+abbrev pub AreWithin : ℕ → List MemberPlace → Type 0
 AreWithin size places = All (IsPlaced size) places
 
 -- a member with its name quoted

@@ -10,8 +10,8 @@ use Rattle.session_text.specs.declared.event.Event.{Event}
 use Rattle.session_text.specs.declared.fault.TextFault.{TextFault}
 use Rattle.session_text.specs.declared.fault.TextFault.TheVariants.{Json}
 use Rattle.session_text.specs.declared.session.Session.{Session}
-use Rattle.commands.specs.declared.status.Refusal.{Refusal}
-use Rattle.commands.specs.declared.status.Refusal.TheVariants as refusal
+use Rattle.commands.specs.declared.status.InputRefusal.{InputRefusal}
+use Rattle.commands.specs.declared.status.InputRefusal.TheVariants as refusal
 
 -- The texts are those of the events, one by one, where so many messages were made before.
 abbrev pub SayEvents : ℕ → ℕ → List (List ℕ) → List Event → Type 0
@@ -44,7 +44,7 @@ session_seen state = record {
 }
 
 -- what an input that is to be a session is refused for, whose text with this number isn't read
-abbrev pub session_refusal_of : ℕ → Stopped TextFault → Refusal
+abbrev pub session_refusal_of : ℕ → Stopped TextFault → InputRefusal
 session_refusal_of number (Faulty fault) = refusal.Event number (Json fault)
 session_refusal_of number (Refused fault) = refusal.Event number fault
 session_refusal_of number (Extra place) = refusal.TooMany

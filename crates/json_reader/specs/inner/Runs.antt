@@ -1,7 +1,7 @@
 -- Runs of the machine. Only contracts of private functions cite this.
 use Rattle.std.specs.Prelude.{◌≡◌, ℕ, List, [], ◌∷◌, Bool, true, false}
 use Rattle.json_reader.specs.Feeding.{behind_space}
-use Rattle.json_reader.specs.Machine.{Bracket, Mode, After, Fresh, Outcome, state, ended, refused, step}
+use Rattle.json_reader.specs.inner.Machine.{Bracket, Mode, After, Fresh, Outcome, state, ended, refused, step}
 
 -- what comes of a byte more, where at most so many brackets may be open
 abbrev pub go : ℕ → Outcome → ℕ → Outcome

@@ -18,7 +18,7 @@ use Rattle.effects.specs.declared.effect.Effect.TheVariants as effects
 use Rattle.effects.specs.declared.linking.Link.{Link}
 use Rattle.effects.specs.declared.linking.Label.{Label}
 use Rattle.view.specs.Shown.{is_live}
-use Rattle.effects.specs.Concerning.{DeletesLive}
+use Rattle.effects.specs.inner.Concerning.{DeletesLive}
 use Rattle.effects.specs.Deleting.{deleted_from}
 use Rattle.board_commands.specs.declared.command.Command.{Command}
 use Rattle.effects.specs.Effects.{effect, with_group, without_group}

@@ -1,6 +1,6 @@
 use Rattle.std.proofs.Common.{◌-◌, length}
-use Rattle.json_reader.specs.Writing.{ReadsOn}
-use Rattle.json_reader.proofs.reader.Reader.read.Given as goal
+use Rattle.json_reader.specs.inner.Writing.{ReadsOn}
+use Rattle.json_reader.proofs.reader.ValueReader.read.Given as goal
 
 abbrev pub invariant-loop-next : goal.invariant-loop-next
 invariant-loop-next l = ReadsOn l.bytes l.fn.self.next l.fn.self.machine l.fn.self.writer l.next l.machine l.writer

@@ -2,7 +2,7 @@ use Rattle.std.proofs.Common.{◌≡◌, [], arith, sym, ◌∙◌}
 use Rattle.std.proofs.lemmas.Bool.{false≢true}
 use Rattle.std.proofs.lemmas.List.{drop_all}
 use Rattle.json_reader.proofs.Outcomes.{broken_in}
-use Rattle.json_reader.proofs.reader.Reader.finish.Goals as goal
+use Rattle.json_reader.proofs.reader.ValueReader.finish.Goals as goal
 
 pub returns-in_ok-value_of-clause-value : goal.returns-in_ok-value_of-clause-value
 returns-in_ok-value_of-clause-value c at read =
