@@ -17,8 +17,8 @@ use Rattle.links.proofs.CallerLemmas.{list_any-from, list_any-map}
 use Rattle.view.specs.Shown.{in_scene_order, without_index}
 use Rattle.view.specs.Steps.{is_framed}
 use Rattle.view.proofs.CallerLemmas.{IsPermutation-in_scene_order}
-use Rattle.live_view.specs.inner.Reached.{is_among, is_frame_there, HasMembers, StaysFrame}
-use Rattle.live_view.specs.inner.Replacing.{element_after}
+use Rattle.live_view.specs.Reached.{is_among, is_frame_there, HasMembers, StaysFrame}
+use Rattle.live_view.specs.Replacing.{element_after}
 use Rattle.live_view.proofs.ReachedLaws.{any_found}
 
 -- what elements of no id of these name as their frame is a frame after a change as before it

@@ -10,7 +10,7 @@ use Rattle.links.specs.Steps.{links_to, is_one_step, is_within, near}
 use Rattle.elem_store.proofs.CallerLemmas.{Contains-head, Contains-cons, find-Some, same_id}
 use Rattle.view.specs.Shown.{without_index}
 use Rattle.view.specs.Steps.{HasAllLinked, HasAllNear}
-use Rattle.live_view.specs.inner.Reached.{is_among, AreSurrounded, HaveStepped, HaveReached, IsStartedBy, AreStartedBy}
+use Rattle.live_view.specs.Reached.{is_among, AreSurrounded, HaveStepped, HaveReached, IsStartedBy, AreStartedBy}
 
 pub any_found : {X : Type 0} (p : X → Bool) (xs : List X) → list_any p xs ≡ true → (x : X) × Contains xs x
     × (p x ≡ true)

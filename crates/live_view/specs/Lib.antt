@@ -1,2 +1,5 @@
 pub mod Changes
+pub mod Putting
+pub mod Reached
+pub mod Replacing
 pub mod inner

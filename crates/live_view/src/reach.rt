@@ -8,7 +8,7 @@ ghost use Rattle.elem_store.specs.Updates.{ids_of};
 ghost use Rattle.frames_groups.specs.Frames as frames;
 ghost use Rattle.links.specs.Names.{is_id};
 ghost use Rattle.links.specs.Steps as steps;
-ghost use Rattle.live_view.specs.inner.Reached.{is_among, is_frame_there, AreIds, AreStartedBy, AreSurrounded, HasMembers, HaveFrames, HaveReached, HaveStepped, StaysFrame};
+ghost use Rattle.live_view.specs.Reached.{is_among, is_frame_there, AreIds, AreStartedBy, AreSurrounded, HasMembers, HaveFrames, HaveReached, HaveStepped, StaysFrame};
 ghost use Rattle.view.specs.Kept.{HaveRowsOf};
 
 use crate::ids::Ids;

@@ -1,5 +1,5 @@
 use Rattle.std.proofs.Common.{arith, ap, ◌∙◌, take_all}
-use Rattle.live_view.specs.inner.Reached.{is_among}
+use Rattle.live_view.specs.Reached.{is_among}
 use Rattle.live_view.proofs.Stepping.{linking-among, linking-more}
 use Rattle.live_view.proofs.reach.add_linking.Goals as goal
 

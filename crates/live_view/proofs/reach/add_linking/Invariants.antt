@@ -1,5 +1,5 @@
 use Rattle.std.proofs.Common.{◌≡◌, ℕ, List, true, take}
-use Rattle.live_view.specs.inner.Reached.{is_among, AreIds}
+use Rattle.live_view.specs.Reached.{is_among, AreIds}
 use Rattle.live_view.proofs.Stepping.{LinkAmong}
 use Rattle.live_view.proofs.reach.add_linking.Given as goal
 

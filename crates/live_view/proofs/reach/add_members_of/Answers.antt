@@ -2,7 +2,7 @@ use Rattle.std.proofs.Common.{Some, inr, sym, ap, ◌∙◌}
 use Rattle.std.proofs.lemmas.Bool.{or_left}
 use Rattle.std.proofs.lemmas.Result.{on_ok_weaker}
 use Rattle.elem.specs.ElementValue.{ElementValue}
-use Rattle.live_view.specs.inner.Reached.{is_among}
+use Rattle.live_view.specs.Reached.{is_among}
 use Rattle.live_view.proofs.Stepping.{members-among}
 use Rattle.live_view.proofs.reach.add_members_of.Goals as goal
 
