@@ -1,6 +1,7 @@
 pub mod Among
 pub mod ArrowLaws
 pub mod EntryLaws
+pub mod LookLaws
 pub mod Members
 pub mod Near
 pub mod RowEdits

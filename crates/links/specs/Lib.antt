@@ -1,5 +1,6 @@
 pub mod Arrows
 pub mod Entries
+pub mod Looks
 pub mod Names
 pub mod Rows
 pub mod Settled

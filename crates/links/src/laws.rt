@@ -5,6 +5,7 @@ ghost use Rattle.elem.specs.ElementValue.{ElementValue};
 ghost use Rattle.elem.specs.Order.{has_id, HaveDistinctIds};
 ghost use Rattle.links.specs.Arrows.{settled_arrows};
 ghost use Rattle.links.specs.Settled.{unlinked, unplaced, settled_links, ArrowsAgree, TextsAgree, HaveOneText, NameTargets};
+ghost use Rattle.links.specs.Looks.{HasAllSeen, LookAlike};
 ghost use Rattle.links.specs.Steps.{is_within, near};
 ghost use Rattle.links.specs.Texts.{settled_texts};
 
@@ -49,6 +50,24 @@ pub fn other_parts_play_no_part()
 pub fn three_steps_are_enough()
     ensures { (list : List ElementValue) (among : ElementValue → Bool) (id : List ℕ)
         → HaveDistinctIds list → All (λ e. IsTrue (among e)) (near list id)
+        → find (has_id id) (settled_links (filter among list))
+        ≡ find (has_id id) (settled_links list) }
+{}
+
+/// What settling makes of an element rests on that alone at which it looks: the element; which
+/// arrows and texts name it; its container, if it is a text, with the texts that name this; and the
+/// kind of what its ends name, and of a text among these the container. The other arrows that are
+/// bound to what its ends name play no part.
+pub fn what_is_seen_is_enough()
+    // Two lists that look alike to an element settle it alike.
+    ensures alike { (list other : List ElementValue) (id : List ℕ)
+        → HaveDistinctIds list → HaveDistinctIds other → LookAlike list other id
+        → find (has_id id) (settled_links list) ≡ find (has_id id) (settled_links other) }
+
+    // Where all at which settling looks for it is among the elements that are settled, these settle
+    // it as all do.
+    ensures alone { (list : List ElementValue) (among : ElementValue → Bool) (id : List ℕ)
+        → HaveDistinctIds list → HasAllSeen among list id
         → find (has_id id) (settled_links (filter among list))
         ≡ find (has_id id) (settled_links list) }
 {}

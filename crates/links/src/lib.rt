@@ -15,6 +15,6 @@ mod table;
 mod texts;
 
 pub use link_table::LinkTable;
-pub use parts::{can_hold_text, is_target, links_to};
+pub use parts::{can_hold_text, is_target, is_text, links_to};
 pub use rows::{LinkRow, linked_ids, rows_of};
 pub use settle::{settle_arrows, settle_texts};

@@ -49,8 +49,8 @@ pub fn can_hold_text(e: &Element) -> bool
     )
 }
 
-/// Whether an element is a text.
-pub(crate) fn is_text(e: &Element) -> bool
+/// Whether an element is a text. It takes no memory.
+pub fn is_text(e: &Element) -> bool
     ensures { result ≡ names.is_text e.now.kind }
 {
     matches!(e.kind, Kind::Text)

@@ -17,7 +17,6 @@ use Rattle.elem_store.specs.Places.{IsAt, IsGapFor}
 use Rattle.elem.specs.Order.{has_id, HaveDistinctIds}
 use Rattle.elem_store.specs.Updates.{element_of, ids_of}
 use Rattle.elem_store.proofs.CallerLemmas.{HasTaken-insert, element-gap, element-at, same_id, of_same, find-Some, filter-Contains, Contains-head, member}
-use Rattle.frames_groups.specs.Frames.{is_frame}
 use Rattle.links.proofs.CallerLemmas.{distinct-among, map-map}
 use Rattle.view.specs.Settled.{settled, unsettled}
 use Rattle.index_repair.specs.Keyed.{index_of}
@@ -27,10 +26,10 @@ use Rattle.view.proofs.CallerLemmas.{AllPairs-in_order, HaveDistinctIds-permuted
 use Rattle.live_view.specs.declared.places.Put.{Put}
 use Rattle.live_view.specs.inner.Coming.{all_stored, part_with, part_of_ids, rekeyed, AreAround, ArePutBeside, HasGone, IsComing, IsGoing, IsPlaceFor}
 use Rattle.live_view.specs.Putting.{puts_of, IsInPlace, IsWithin, all_put}
-use Rattle.live_view.specs.Reached.{is_among, is_frame_there, HasMembers, IsStartedBy, HaveReached, StaysFrame}
+use Rattle.live_view.specs.Reached.{is_among, IsStartedBy, HaveReached, StaysKind}
 use Rattle.live_view.specs.Replacing.{element_after, HaveReplaced}
 use Rattle.live_view.specs.inner.Runs.{part_of, stored_keys, AreKeysWith, AreKeysWithout}
-use Rattle.live_view.proofs.Framed.{frames-gone, frames-replaced}
+use Rattle.live_view.proofs.Framed.{kinds-gone, kinds-replaced}
 use Rattle.live_view.proofs.NearLaws.{IsView-near, ids-settled, indices-placed, keyless, kept-order}
 use Rattle.live_view.proofs.OrderedLaws.{order-with, stored-order, map-insert, map-remove, insert-moved, others_than, others-apart, others-removed, others-rise}
 use Rattle.live_view.proofs.Picked.{distinct-after, picked-in_order}
@@ -42,7 +41,7 @@ use Rattle.live_view.proofs.ShownAfter.{element-filter, one-of-same}
 -- ---- what stands around an element begins with it
 stepped-from : (live : List ElementValue) (from to : List (List ℕ)) → HaveReached live from to → (id : List ℕ)
     → is_among from id ≡ true → is_among to id ≡ true
-stepped-from live from to reached id h = reached.third.kept id (reached.second.kept id (reached.first.kept id h))
+stepped-from live from to reached id h = reached.to_texts.kept id (reached.texts.kept id (reached.linked.kept id h))
 
 own-near : (live : List ElementValue) (e : ElementValue) (near wide : List (List ℕ)) → AreAround live e near wide
     → is_among near e.id ≡ true
@@ -374,10 +373,6 @@ module _ (live drawn : List ElementValue) (view : IsView live drawn) where
         sym (length-map after_puts (λ (x : ElementValue). x.id)) ∙ ap length ids-puts
         ∙ length-map drawn (λ (x : ElementValue). x.id) ∙ count-drawn
 
-    stays : (is_frame e ≡ false) ⊎ HasMembers live coming.around.start e.id → StaysFrame live coming.around.start e
-    stays (inl none) = inl (ap is_frame_there none-live ∙ sym none)
-    stays (inr has) = inr has
-
     from-with : (x : ElementValue) → Contains (insert live at' e) x → Contains live x ⊎ Contains (e ∷ []) x
     from-with x c =
         by (has_id x.id e) refl (sym (each-with x.id) ∙ member None None (insert live at' e) x ordered-with c) where
@@ -406,12 +401,9 @@ module _ (live drawn : List ElementValue) (view : IsView live drawn) where
           started = coming.around.started;
           reached = coming.around.reached;
           surrounded = coming.around.surrounded;
-          frames_kept =
-              frames-replaced live (insert live at' e) view.ordered ordered-with coming.around.start (e ∷ [])
-              each-after (All-from_recursion (StaysFrame live coming.around.start) (e ∷ []) (
-                stays coming.around.members,
-                tt,
-              ));
+          kinds_kept =
+              kinds-replaced live (insert live at' e) coming.around.start (e ∷ []) each-after
+              (All-from_recursion (StaysKind live coming.around.start) (e ∷ []) (inr coming.around.namers, tt));
           others = λ id out. each-with id ∙ ap (λ b. cond b (Some e) (element_of live id))
               (false_from_ne_true (has_id id e) (λ is.
               let begins : IsStartedBy coming.around.start e =
@@ -676,8 +668,8 @@ module _ (live drawn : List ElementValue) (view : IsView live drawn) where
           started = going.around.started;
           reached = going.around.reached;
           surrounded = going.around.surrounded;
-          frames_kept = frames-gone live (remove live at') view.ordered ordered-without going.around.start e known
-              each-without going.around.members;
+          kinds_kept =
+              kinds-gone live (remove live at') going.around.start e.id each-without going.around.namers;
           others = λ id out. each-without' id
               ∙ ap (λ b. cond (not b) (element_of live id) None) (false_from_ne_true (bytes_eq e.id id) (λ own.
               let begins : IsStartedBy going.around.start e =

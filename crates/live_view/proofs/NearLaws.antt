@@ -15,14 +15,14 @@ use Rattle.links.proofs.CallerLemmas.{map-map}
 use Rattle.view.specs.Settled.{settled, unsettled}
 use Rattle.index_repair.specs.Keyed.{index_of, keyed, HaveKeysOrNone}
 use Rattle.view.specs.Shown.{is_live, comes_before, in_scene_order, without_index, placed, shown, IsView}
-use Rattle.view.specs.Steps.{is_framed, settled_but_for_key, HasAllLinked, HasAllNear}
-use Rattle.view.proofs.CallerLemmas.{AllPairs-in_order, HaveDistinctIds-permuted, scene_order, IsPermutation-in_scene_order, distinct-settled, unsettled-settled, HaveDistinctIds-rising, placed-distinct, settled-alone, settled-keys, settled-unchanged}
+use Rattle.view.specs.Steps.{is_framed, settled_but_for_key, HasAllSeenFramed}
+use Rattle.view.proofs.CallerLemmas.{AllPairs-in_order, HaveDistinctIds-permuted, scene_order, IsPermutation-in_scene_order, distinct-settled, unsettled-settled, HaveDistinctIds-rising, placed-distinct, settled-keys, settled-looks, settled-seen}
 use Rattle.live_view.specs.Reached.{is_among, AreStartedBy, AreSurrounded, HaveReached}
 use Rattle.live_view.proofs.ByIds.{same-by_ids}
-use Rattle.live_view.proofs.Framed.{AreFramesKept, framed-alike}
+use Rattle.live_view.proofs.Framed.{AreKindsKept, framed-alike}
 use Rattle.live_view.proofs.Picked.{picked-in_order, same-in_order}
 use Rattle.live_view.proofs.PlacedLaws.{keys-count, others-keyed}
-use Rattle.live_view.proofs.ReachedLaws.{IsOneOf, AreOf, all-linked, all, far-back, surrounded-near}
+use Rattle.live_view.proofs.ReachedLaws.{IsOneOf, AreOf, keyless-filter, placed-far, started-near, surrounded-near}
 use Rattle.live_view.proofs.ShownAfter.{element-filter, index-by_ids, one-of-same}
 use Rattle.live_view.proofs.Untouched.{element-map, same_option, index-settled}
 
@@ -39,16 +39,6 @@ indices-keyed [] [] h = refl
 indices-keyed [] (key ∷ keys) h = absurd (omega arith)
 indices-keyed (e ∷ es) [] h = absurd (omega arith)
 indices-keyed (e ∷ es) (key ∷ keys) h = ap (λ indices. Some key ∷ indices) (indices-keyed es keys (omega arith))
-
--- a test of ids passes over keys
-keyless-filter : (q : List ℕ → Bool) (es : List ElementValue)
-    → map without_index (filter (λ (e : ElementValue). q e.id) es)
-    ≡ filter (λ (e : ElementValue). q e.id) (map without_index es)
-keyless-filter q [] = refl
-keyless-filter q (e ∷ es) = elim (cases_Bool (q e.id)) [
-  | inl is ↦ rw is (ap (λ xs. without_index e ∷ xs) (keyless-filter q es))
-  | inr not ↦ rw not (keyless-filter q es)
-]
 
 pub keyless : (es : List ElementValue) (id : List ℕ) → option_map without_index (element_of es id)
     ≡ element_of (map without_index es) id
@@ -131,7 +121,7 @@ pub record IsShownNear (live drawn news after new : List ElementValue) : Type 0 
   pub started : AreStartedBy start news
   pub reached : HaveReached live start near
   pub surrounded : AreSurrounded live news near wide
-  pub frames_kept : AreFramesKept live after start
+  pub kinds_kept : AreKindsKept live after start
   pub others : (id : List ℕ) → is_among start id ≡ false → element_of after id ≡ element_of live id
   pub from : (e : ElementValue) → Contains after e → Contains live e ⊎ Contains news e
   pub ids : ids_of new ≡ ids_of (in_scene_order after)
@@ -166,9 +156,6 @@ module _ (live drawn news after new : List ElementValue) (view : IsView live dra
   one-from e f same (inl c) = inl (f, c, same)
   one-from e f same (inr c) = inr (f, c, same)
 
-  of-live : AreOf live news (placed live)
-  of-live e c = let f = from-placed live view.keys e c in inl f
-
   of-after : AreOf live news (placed after)
   of-after e c = let f = from-placed after is.keys e c in one-from e f.0 f.2 (is.from f.0 f.1)
 
@@ -195,19 +182,8 @@ module _ (live drawn news after new : List ElementValue) (view : IsView live dra
       ∙ keyless-filter q (in_scene_order after) ∙ ap (filter off) (sym (others-placed after is.keys))
       ∙ sym (keyless-filter q (placed after))
 
-  own : (id : List ℕ) → is_among is.start id ≡ true → is_among is.start id ≡ true
-  own id h = h
-
-  far-start : (list : List ElementValue) → AreOf live news list → (id : List ℕ) → is_among is.near id ≡ false
-      → HasAllLinked off list id
-  far-start list of id out =
-      all-linked off list id
-      (λ e c within. ap not (far-back live news list is.start is.started of is.start is.near is.reached own id out e c
-      within))
-
   started_near : (id : List ℕ) → is_among is.start id ≡ true → is_among is.near id ≡ true
-  started_near =
-      all live news [] is.start is.started (λ e c. absurd (omega (arith, c.1))) is.start is.near is.reached own
+  started_near = started-near live news is.start is.near is.started is.reached
 
   far-stays : (id : List ℕ) → is_among is.start id ≡ false → (es : List ElementValue)
       → option_map without_index (element_of es id) ≡ element_of (map without_index (filter off es)) id
@@ -219,7 +195,8 @@ module _ (live drawn news after new : List ElementValue) (view : IsView live dra
   far-framed id out =
       let off_start : is_among is.start id ≡ false =
       false_from_ne_true (is_among is.start id) (λ h. both_ways (is_among is.near id) out (started_near id h)) in
-      framed-alike live after (placed live) (placed after) is.start is.frames_kept (others-placed live view.keys)
+      framed-alike live after (placed live) (placed after) is.start is.kinds_kept view.ordered is.ordered
+      (others-placed live view.keys)
       (others-placed after is.keys) (from-placed live view.keys) id off_start
       (far-stays id off_start (placed live) ∙ ap (λ es. element_of es id) kept
       ∙ sym (far-stays id off_start (placed after)))
@@ -227,8 +204,12 @@ module _ (live drawn news after new : List ElementValue) (view : IsView live dra
   alike : (id : List ℕ) → is_among is.near id ≡ false → settled_but_for_key (placed live) id
       ≡ settled_but_for_key (placed after) id
   alike id out =
-      settled-unchanged (placed live) (placed after) off id distinct-placed distinct-placed_after kept
-      (far-start (placed live) of-live id out) (far-start (placed after) of-after id out) (far-framed id out)
+      settled-looks (placed live) (placed after) id distinct-placed distinct-placed_after (record {
+        linked = placed-far live news after (placed live) (placed after) is.start is.near is.started is.reached
+            view.ordered is.ordered is.kinds_kept (others-placed live view.keys) (others-placed after is.keys)
+            (from-placed live view.keys) of-after kept id out;
+        framed = far-framed id out;
+      })
 
   drawn-is : drawn ≡ settled (placed live)
   unfolding shown
@@ -240,16 +221,16 @@ module _ (live drawn news after new : List ElementValue) (view : IsView live dra
   part-is = ap settled (picked-in_order after is.wide is.ordered is.surrounded.distinct)
 
   near-wide : (id : List ℕ) → is_among is.near id ≡ true
-      → HasAllNear (λ (e : ElementValue). is_among is.wide e.id) (in_scene_order after) id
-  near-wide = surrounded-near live news (in_scene_order after) is.start is.started of-order is.near is.wide
-      is.surrounded.more started_near is.surrounded
+      → HasAllSeenFramed (λ (e : ElementValue). is_among is.wide e.id) (in_scene_order after) id
+  near-wide = surrounded-near live news is.start is.near is.started is.reached (in_scene_order after) is.wide of-order
+      is.surrounded
 
   settled-near : (id : List ℕ) → is_among is.near id ≡ true
       → settled_but_for_key (in_scene_order (filter_map (element_of after) is.wide)) id
       ≡ settled_but_for_key (placed after) id
   settled-near id h =
       ap (λ es. option_map without_index (element_of es id)) part-is
-      ∙ ap (option_map without_index) (settled-alone (in_scene_order after)
+      ∙ ap (option_map without_index) (settled-seen (in_scene_order after)
       (λ (e : ElementValue). is_among is.wide e.id) id distinct-order (near-wide id h))
       ∙ settled-placed after is.keys id
 

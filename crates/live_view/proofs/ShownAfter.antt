@@ -14,22 +14,22 @@ use Rattle.elem.specs.ElementValue.{ElementValue}
 use Rattle.elem.specs.Order.{has_id, HaveDistinctIds}
 use Rattle.elem_store.specs.Updates.{element_of, ids_of}
 use Rattle.elem_store.proofs.CallerLemmas.{same_id, find-Some, Contains-head, Contains-cons, Contains-cases}
-use Rattle.links.proofs.CallerLemmas.{distinct-among, map-map}
+use Rattle.links.proofs.CallerLemmas.{Contains-map, distinct-among, map-map}
 use Rattle.view.specs.Settled.{settled, unsettled}
 use Rattle.index_repair.specs.Keyed.{index_of, with_index, keyed, HaveKeysOrNone}
 use Rattle.view.specs.Shown.{is_live, in_scene_order, without_index, placed, shown, as_stored, IsView}
-use Rattle.view.specs.Steps.{is_framed, settled_of, settled_but_for_key, HasAllLinked, HasAllNear}
-use Rattle.view.proofs.CallerLemmas.{AllPairs-in_order, HaveDistinctIds-permuted, in_order-only, scene_order, IsPermutation-in_scene_order, distinct-settled, unsettled-settled, HaveDistinctIds-rising, placed-distinct, settled-alone, settled-keys, settled-unchanged}
+use Rattle.view.specs.Steps.{is_framed, settled_of, settled_but_for_key, HasAllSeenFramed}
+use Rattle.view.proofs.CallerLemmas.{AllPairs-in_order, HaveDistinctIds-permuted, in_order-only, scene_order, IsPermutation-in_scene_order, distinct-settled, unsettled-settled, HaveDistinctIds-rising, placed-distinct, settled-keys, settled-looks, settled-seen}
 use Rattle.live_view.specs.declared.places.Put.{Put}
 use Rattle.live_view.specs.Putting.{puts_of, IsInPlace, all_put}
 use Rattle.live_view.specs.Reached.{is_among, AreStartedBy, IsStartedBy}
 use Rattle.live_view.specs.Replacing.{element_after, AreRepairs, HaveReplaced}
 use Rattle.live_view.proofs.ByIds.{same-by_ids}
-use Rattle.live_view.proofs.Framed.{framed-alike, frames-replaced}
+use Rattle.live_view.proofs.Framed.{AreKindsKept, framed-alike, kinds-replaced}
 use Rattle.live_view.proofs.Picked.{pairs-alike, picked-in_order}
 use Rattle.live_view.proofs.PlacedLaws.{keys-count, others-keyed, shown-distinct}
 use Rattle.live_view.proofs.PuttingLaws.{ids-all_put, indices-all_put, element-all_put}
-use Rattle.live_view.proofs.ReachedLaws.{IsOneOf, AreOf, all-linked, all, far-back, surrounded-near}
+use Rattle.live_view.proofs.ReachedLaws.{IsOneOf, AreOf, placed-far, started-near, surrounded-near}
 use Rattle.live_view.proofs.Untouched.{element-map, same_option, index-settled, all-shown}
 
 -- ---- lists and options
@@ -60,14 +60,6 @@ one-of-same part (x ∷ es) (y ∷ fs) same e c =
       | inr more ↦ let later =
           one-of-same part es fs (cc) e more in (later.0, Contains-cons y fs later.0 later.1, later.2)
     ]
-
-one-of-map : (f : ElementValue → ElementValue) (es : List ElementValue) (e : ElementValue) → Contains (map f es) e
-    → (x : ElementValue) × Contains es x × (e ≡ f x)
-one-of-map f [] e c = absurd (omega (arith, c.1))
-one-of-map f (x ∷ es) e c = elim (Contains-cases (f x) (map f es) e c) [
-  | inl is ↦ (x, Contains-head x es, sym is)
-  | inr more ↦ let later = one-of-map f es e more in (later.0, Contains-cons x es later.0 later.1, later.2)
-]
 
 pub element-filter : (q : List ℕ → Bool) (es : List ElementValue) (id : List ℕ)
     → element_of (filter (λ (e : ElementValue). q e.id) es) id ≡ cond (q id) (element_of es id) None
@@ -319,15 +311,12 @@ module _ (live drawn news : List ElementValue) (held : List Put) (view : IsView 
         f.2,
       )
 
-  of-live : AreOf live news (placed live)
-  of-live e c = inl (from-live e c)
-
   of-order : AreOf live news (in_scene_order (all_put held live))
   of-order e c =
       let L = in_scene_order live in
-      let x = one-of-map (as_stored news) L e (subst (λ es. Contains es e) order-after c) in
+      let x = Contains-map (as_stored news) L e (subst (λ es. Contains es e) order-after c) in
       from x.0 (Contains-permutation L live x.0 (IsPermutation-sym _ _ (IsPermutation-in_scene_order live)) x.1)
-      (element_of news x.0.id) refl x.2
+      (element_of news x.0.id) refl (sym x.2)
     where
       from : (x : ElementValue) → Contains live x → (o : Option ElementValue) → element_of news x.id ≡ o
           → e ≡ as_stored news x → IsOneOf live e ⊎ IsOneOf news e
@@ -349,20 +338,11 @@ module _ (live drawn news : List ElementValue) (held : List Put) (view : IsView 
   -- ---- what is shown
   module _ (puts : List Put) (repairs : AreRepairs live drawn news puts)
       (placed_puts : AllByRecursion (IsInPlace drawn) puts) where
-    own : (id : List ℕ) → is_among repairs.start id ≡ true → is_among repairs.start id ≡ true
-    own id is = is
-
-    -- far from the new ones
-    far-start : (list : List ElementValue) → AreOf live news list → (id : List ℕ) → is_among repairs.near id ≡ false
-        → HasAllLinked (λ (e : ElementValue). not (is_among repairs.start e.id)) list id
-    far-start list of id out =
-        all-linked (λ (e : ElementValue). not (is_among repairs.start e.id)) list id
-        (λ e c within. ap not (far-back live news list repairs.start repairs.started of repairs.start repairs.near
-        repairs.reached own id out e c within))
-
     started_near : (id : List ℕ) → is_among repairs.start id ≡ true → is_among repairs.near id ≡ true
-    started_near = all live news [] repairs.start repairs.started (λ e c. absurd (omega (arith, c.1))) repairs.start
-        repairs.near repairs.reached own
+    started_near = started-near live news repairs.start repairs.near repairs.started repairs.reached
+
+    kinds-after : AreKindsKept live (all_put held live) repairs.start
+    kinds-after = kinds-replaced live (all_put held live) repairs.start news each-after repairs.kinds_started
 
     same-placed : (id : List ℕ) → is_among repairs.near id ≡ false
         → element_of (placed live) id ≡ element_of (placed (all_put held live)) id
@@ -378,25 +358,31 @@ module _ (live drawn news : List ElementValue) (held : List Put) (view : IsView 
         → is_framed (placed live) id ≡ is_framed (placed (all_put held live)) id
     far-framed id out =
         framed-alike live (all_put held live) (placed live) (placed (all_put held live)) repairs.start
-        (frames-replaced live (all_put held live) view.ordered rising-after repairs.start news each-after
-        repairs.frames_started)
+        kinds-after view.ordered rising-after
         others-live others-after from-live id
         (false_from_ne_true (is_among repairs.start id)
         (λ is. both_ways (is_among repairs.near id) out (started_near id is)))
         (ap (option_map without_index) (same-placed id out))
 
-    alike : (id : List ℕ) → is_among repairs.near id ≡ false
-        → settled_but_for_key (placed live) id ≡ settled_but_for_key (placed (all_put held live)) id
-    alike id out =
-        settled-unchanged (placed live) (placed (all_put held live))
-        (λ (e : ElementValue). not (is_among repairs.start e.id)) id distinct-placed distinct-placed_after
-        (ap (λ es. map without_index (filter (λ (e : ElementValue). not (is_among repairs.start e.id)) es)) placed-live
+    kept : map without_index (filter (λ (e : ElementValue). not (is_among repairs.start e.id)) (placed live))
+        ≡ map without_index (filter (λ (e : ElementValue). not (is_among repairs.start e.id))
+        (placed (all_put held live)))
+    kept =
+        ap (λ es. map without_index (filter (λ (e : ElementValue). not (is_among repairs.start e.id)) es)) placed-live
         ∙ same-others news repairs.start repairs.started (in_scene_order live)
         (repaired (map index_of (in_scene_order live)))
         ∙ sym (ap (λ es. map without_index (filter (λ (e : ElementValue). not (is_among repairs.start e.id)) es))
-        placed-after))
-        (far-start (placed live) of-live id out) (far-start (placed (all_put held live)) of-after id out)
-        (far-framed id out)
+        placed-after)
+
+    alike : (id : List ℕ) → is_among repairs.near id ≡ false
+        → settled_but_for_key (placed live) id ≡ settled_but_for_key (placed (all_put held live)) id
+    alike id out =
+        settled-looks (placed live) (placed (all_put held live)) id distinct-placed distinct-placed_after (record {
+          linked = placed-far live news (all_put held live) (placed live) (placed (all_put held live)) repairs.start
+              repairs.near repairs.started repairs.reached view.ordered rising-after kinds-after others-live
+              others-after from-live of-after kept id out;
+          framed = far-framed id out;
+        })
 
     -- near them
     shown-is-settled : drawn ≡ settled (placed live)
@@ -414,15 +400,14 @@ module _ (live drawn news : List ElementValue) (held : List Put) (view : IsView 
         HaveDistinctIds-permuted (all_put held live) _ (IsPermutation-in_scene_order (all_put held live)) apart-after
 
     near-wide : (id : List ℕ) → is_among repairs.near id ≡ true
-        → HasAllNear (λ (e : ElementValue). is_among repairs.wide e.id) (in_scene_order (all_put held live)) id
-    near-wide =
-        surrounded-near live news (in_scene_order (all_put held live)) repairs.start repairs.started of-order
-        repairs.near repairs.wide repairs.surrounded.more started_near repairs.surrounded
+        → HasAllSeenFramed (λ (e : ElementValue). is_among repairs.wide e.id) (in_scene_order (all_put held live)) id
+    near-wide = surrounded-near live news repairs.start repairs.near repairs.started repairs.reached
+        (in_scene_order (all_put held live)) repairs.wide of-order repairs.surrounded
 
     settled-near : (id : List ℕ) → is_among repairs.near id ≡ true
         → settled_of (filter (λ (e : ElementValue). is_among repairs.wide e.id) (in_scene_order (all_put held live))) id
         ≡ settled_of (in_scene_order (all_put held live)) id
-    settled-near id is = settled-alone (in_scene_order (all_put held live))
+    settled-near id is = settled-seen (in_scene_order (all_put held live))
         (λ (e : ElementValue). is_among repairs.wide e.id) id distinct-order (near-wide id is)
 
     keyless : (es : List ElementValue) (id : List ℕ) → option_map without_index (element_of es id)

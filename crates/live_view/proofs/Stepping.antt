@@ -1,4 +1,4 @@
--- Steps of links from ids, and the frames that are named there, one id more each time.
+-- What is reached from ids over links, and the frames that are named there, one id more each time.
 use Rattle.std.proofs.Common.{◌≡◌, ℕ, ◌+◌, ◌<◌, Bool, true, false, ◌||◌, List, [], ◌∷◌, ◌++◌, length, take, get_or, Some, None, All, Contains, bytes_eq, filter, map, refl, sym, ap, ◌∙◌, subst, inl, inr}
 use Rattle.std.specs.Option.{option_map_or}
 use Rattle.std.proofs.lemmas.Bool.{or_cases, or_left, or_right}
@@ -15,7 +15,7 @@ use Rattle.links.specs.Rows.{is_for, namer_of}
 use Rattle.links.specs.Names.{is_id, end_names}
 use Rattle.links.specs.Steps.{links_to, names_id}
 use Rattle.links.proofs.CallerLemmas.{list_any-map, list_any-filter}
-use Rattle.live_view.specs.Reached.{is_among, HaveFrames, HaveReached, HaveStepped, HasMembers, IsStartedBy, AreStartedBy, StaysFrame}
+use Rattle.live_view.specs.Reached.{is_among, HaveFrames, HaveLinked, HaveNamers, HasNamers, IsStartedBy, AreStartedBy, StaysKind}
 use Rattle.view.specs.Kept.{HaveRowsOf}
 
 -- ---- from one id
@@ -26,7 +26,7 @@ one_only id x h = (bytes_eq-Decides x id).0 (by (bytes_eq x id) h) where
   by false h = h
 
 -- what links to an id names it, and so does what names it as its frame
-links-named : (id : List ℕ) (e : ElementValue) → links_to id e ≡ true → names_id id e ≡ true
+pub links-named : (id : List ℕ) (e : ElementValue) → links_to id e ≡ true → names_id id e ≡ true
 links-named id e h =
     elim (or_cases (is_id id e.container) (end_names id e.start_binding || end_names id e.end_binding) h) [
       | inl is ↦ or_left (is_id id e.container || is_id id e.frame) _
@@ -34,7 +34,7 @@ links-named id e h =
       | inr is ↦ or_right (is_id id e.container || is_id id e.frame) _ is
     ]
 
-framed-named : (id : List ℕ) (e : ElementValue) → e.frame ≡ Some id → names_id id e ≡ true
+pub framed-named : (id : List ℕ) (e : ElementValue) → e.frame ≡ Some id → names_id id e ≡ true
 framed-named id e h =
     or_left (is_id id e.container || is_id id e.frame) _
     (or_right (is_id id e.container) (is_id id e.frame) (ap (is_id id) h ∙ (bytes_eq-Decides id id).1 refl))
@@ -53,82 +53,89 @@ pub linking-among : (live : List ElementValue) (rows : List LinkRow) (id : List 
     → Contains live e → links_to id e ≡ true → is_among (map namer_of (filter (is_for id) rows)) e.id ≡ true
 linking-among live rows id e rising have c links = namer-among live rows id e rising have c (links-named id e links)
 
-pub members-among : (live : List ElementValue) (rows : List LinkRow) (id : List ℕ) → are_rising (ids_of live) ≡ true
+pub namers-among : (live : List ElementValue) (rows : List LinkRow) (id : List ℕ) → are_rising (ids_of live) ≡ true
     → HaveRowsOf live rows
-    → HasMembers live (map namer_of (filter (is_for id) rows)) id
-members-among live rows id rising have e c names = namer-among live rows id e rising have c (framed-named id e names)
-
-pub neighbours : (live : List ElementValue) (id : List ℕ) (old mid new : List (List ℕ))
-    → are_rising (ids_of live) ≡ true
-    → ((x : List ℕ) → is_among old x ≡ true → is_among mid x ≡ true)
-    → ((e : ElementValue) (x : List ℕ) → element_of live id ≡ Some e → links_to x e ≡ true → is_among mid x ≡ true)
-    → ((x : List ℕ) → is_among mid x ≡ true → is_among new x ≡ true)
-    → ((e : ElementValue) → Contains live e → links_to id e ≡ true → is_among new e.id ≡ true)
-    → HaveStepped live (id ∷ []) old new
-neighbours live id old mid new rising kept linked later linking = record {
-  kept = λ x h. later x (kept x h);
-  linked = λ e x c own links. later x (linked e x (ap (element_of live) (sym (one_only id e.id own))
-      ∙ member None None live e rising c) links);
-  linking = λ e x c own links. linking e c (ap (λ n. links_to n e) (sym (one_only id x own)) ∙ links);
-}
+    → HasNamers live (map namer_of (filter (is_for id) rows)) id
+namers-among live rows id rising have e c names = namer-among live rows id e rising have c names
 
 -- ---- from one id more
-pub stepped-none : (live : List ElementValue) (from to : List (List ℕ))
-    → ((x : List ℕ) → is_among to x ≡ is_among from x) → HaveStepped live [] from to
-stepped-none live from to same = record {
-  kept = λ x h. same x ∙ h;
-  linked = λ e x c own links. cc;
-  linking = λ e x c own links. cc;
-}
-
 among-more : (ids : List (List ℕ)) (i : ℕ) (id x : List ℕ) → i < length ids → id ≡ get_or ids i id
     → is_among (take (i + 1) ids) x ≡ (is_among (take i ids) x || is_among (id ∷ []) x)
 among-more ids i id x within there =
     ap (λ xs. is_among xs x) (take_more ids i id within ∙ ap (λ y. take i ids ++ y ∷ []) (sym there))
     ∙ list_any-append (bytes_eq x) (take i ids) (id ∷ [])
 
-pub stepped-more : (live : List ElementValue) (ids : List (List ℕ)) (i : ℕ) (id : List ℕ)
-    (from mid to : List (List ℕ))
-    → i < length ids → id ≡ get_or ids i id
-    → HaveStepped live (take i ids) from mid → HaveStepped live (id ∷ []) mid to
-    → HaveStepped live (take (i + 1) ids) from to
-stepped-more live ids i id from mid to within there before step = record {
-  kept = λ x h. step.kept x (before.kept x h);
-  linked = λ e x c own links. elim (or_cases (is_among (take i ids) e.id) (is_among (id ∷ []) e.id) (sym (more e.id)
-      ∙ own)) [
-        | inl first ↦ step.kept x (before.linked e x c first links)
-        | inr last ↦ step.linked e x c last links
-      ];
-  linking =
-      λ e x c own links. elim (or_cases (is_among (take i ids) x) (is_among (id ∷ []) x) (sym (more x) ∙ own)) [
-        | inl first ↦ step.kept e.id (before.linking e x c first links)
-        | inr last ↦ step.linking e x c last links
+pub linked-none : (live : List ElementValue) (from to : List (List ℕ))
+    → ((x : List ℕ) → is_among to x ≡ is_among from x) → HaveLinked live [] from to
+linked-none live from to same = record { kept = λ x h. same x ∙ h; linked = λ e x c own links. cc }
+
+pub linked-more : (live : List ElementValue) (ids : List (List ℕ)) (i : ℕ) (id : List ℕ)
+    (from mid to : List (List ℕ)) → are_rising (ids_of live) ≡ true
+    → i < length ids → id ≡ get_or ids i id → HaveLinked live (take i ids) from mid
+    → ((x : List ℕ) → is_among mid x ≡ true → is_among to x ≡ true)
+    → ((e : ElementValue) (x : List ℕ) → element_of live id ≡ Some e → links_to x e ≡ true → is_among to x ≡ true)
+    → HaveLinked live (take (i + 1) ids) from to
+linked-more live ids i id from mid to rising within there before kept linked = record {
+  kept = λ x h. kept x (before.kept x h);
+  linked = λ e x c own links. elim (or_cases (is_among (take i ids) e.id) (is_among (id ∷ []) e.id)
+      (sym (among-more ids i id e.id within there) ∙ own)) [
+        | inl first ↦ kept x (before.linked e x c first links)
+        | inr last ↦ linked e x (ap (element_of live) (sym (one_only id e.id last))
+            ∙ member None None live e rising c) links
       ];
 }
-  where
-    more : (x : List ℕ) → is_among (take (i + 1) ids) x ≡ (is_among (take i ids) x || is_among (id ∷ []) x)
-    more x = among-more ids i id x within there
+
+pub namers-none : (passes : List ℕ → ElementValue → Bool) (live : List ElementValue) (from to : List (List ℕ))
+    → ((x : List ℕ) → is_among to x ≡ is_among from x) → HaveNamers passes live [] from to
+namers-none passes live from to same =
+    record { kept = λ x h. same x ∙ h; naming = λ e x c own links is. cc }
+
+pub namers-more : (passes : List ℕ → ElementValue → Bool) (live : List ElementValue) (ids : List (List ℕ)) (i : ℕ)
+    (id : List ℕ) (from mid to : List (List ℕ)) → i < length ids → id ≡ get_or ids i id
+    → HaveNamers passes live (take i ids) from mid
+    → ((x : List ℕ) → is_among mid x ≡ true → is_among to x ≡ true)
+    → ((e : ElementValue) → Contains live e → links_to id e ≡ true → passes id e ≡ true → is_among to e.id ≡ true)
+    → HaveNamers passes live (take (i + 1) ids) from to
+namers-more passes live ids i id from mid to within there before kept naming = record {
+  kept = λ x h. kept x (before.kept x h);
+  naming = λ e x c own links is. elim (or_cases (is_among (take i ids) x) (is_among (id ∷ []) x)
+      (sym (among-more ids i id x within there) ∙ own)) [
+        | inl first ↦ kept e.id (before.naming e x c first links is)
+        | inr last ↦
+            let same : x ≡ id = one_only id x last in
+            naming e c (ap (λ n. links_to n e) (sym same) ∙ links) (ap (λ n. passes n e) (sym same) ∙ is)
+      ];
+}
+
+-- what names some ids does with more ids
+pub namers-kept : (passes : List ℕ → ElementValue → Bool) (live : List ElementValue) (over from old new : List (List ℕ))
+    → ((x : List ℕ) → is_among old x ≡ true → is_among new x ≡ true) → HaveNamers passes live over from old
+    → HaveNamers passes live over from new
+namers-kept passes live over from old new kept have = record {
+  kept = λ x h. kept x (have.kept x h);
+  naming = λ e x c own links is. kept e.id (have.naming e x c own links is);
+}
 
 -- ---- what links to an id, one namer more
-abbrev pub LinkAmong : List ElementValue → List ℕ → List (List ℕ) → List (List ℕ) → Type 0
-LinkAmong live id namers ids =
-    (e : ElementValue) → Contains live e → links_to id e ≡ true → is_among namers e.id ≡ true
+abbrev pub LinkAmong : (ElementValue → Bool) → List ElementValue → List ℕ → List (List ℕ) → List (List ℕ) → Type 0
+LinkAmong passes live id namers ids =
+    (e : ElementValue) → Contains live e → links_to id e ≡ true → passes e ≡ true → is_among namers e.id ≡ true
     → is_among ids e.id ≡ true
 
-pub linking-more : (live : List ElementValue) (id : List ℕ) (namers : List (List ℕ)) (i : ℕ) (namer : List ℕ)
-    (old new : List (List ℕ)) → are_rising (ids_of live) ≡ true
-    → i < length namers → namer ≡ get_or namers i namer → LinkAmong live id (take i namers) old
+pub linking-more : (passes : ElementValue → Bool) (live : List ElementValue) (id : List ℕ) (namers : List (List ℕ))
+    (i : ℕ) (namer : List ℕ) (old new : List (List ℕ)) → are_rising (ids_of live) ≡ true
+    → i < length namers → namer ≡ get_or namers i namer → LinkAmong passes live id (take i namers) old
     → ((x : List ℕ) → is_among old x ≡ true → is_among new x ≡ true)
-    → ((e : ElementValue) → element_of live namer ≡ Some e → links_to id e ≡ true → is_among new namer ≡ true)
-    → LinkAmong live id (take (i + 1) namers) new
-linking-more live id namers i namer old new rising within there before kept linking e c links own =
+    → ((e : ElementValue) → element_of live namer ≡ Some e → links_to id e ≡ true → passes e ≡ true
+    → is_among new namer ≡ true) → LinkAmong passes live id (take (i + 1) namers) new
+linking-more passes live id namers i namer old new rising within there before kept linking e c links is own =
     elim (or_cases (is_among (take i namers) e.id) (is_among (namer ∷ []) e.id)
     (sym (among-more namers i namer e.id within there) ∙ own)) [
-      | inl first ↦ kept e.id (before e c links first)
+      | inl first ↦ kept e.id (before e c links is first)
       | inr last ↦
           let same : e.id ≡ namer = one_only namer e.id last in
           ap (is_among new) same ∙ linking e (ap (element_of live) (sym same) ∙ member None None live e rising c)
-          links
+          links is
     ]
 
 -- ---- frames that are named, of one id or element more
@@ -165,21 +172,21 @@ frames_of-more elements i e old new within there before are =
     ∙ or_left (is_id frame e.frame) (is_among old frame) (ap (is_id frame) names
     ∙ (bytes_eq-Decides frame frame).1 refl)))
 
--- ---- what elements frame no more, or anew, of one element more
+-- ---- the kinds of one element more
 pub stays-kept : (live : List ElementValue) (old new : List (List ℕ))
-    → ((x : List ℕ) → is_among old x ≡ true → is_among new x ≡ true) → (e : ElementValue) → StaysFrame live old e
-    → StaysFrame live new e
+    → ((x : List ℕ) → is_among old x ≡ true → is_among new x ≡ true) → (e : ElementValue) → StaysKind live old e
+    → StaysKind live new e
 stays-kept live old new kept e (inl same) = inl same
 stays-kept live old new kept e (inr has) = inr (λ m c names. kept m.id (has m c names))
 
-pub members-more : (live elements : List ElementValue) (i : ℕ) (e : ElementValue) (old new : List (List ℕ))
-    → i < length elements → e ≡ get_or elements i e → All (StaysFrame live old) (take i elements)
-    → ((x : List ℕ) → is_among old x ≡ true → is_among new x ≡ true) → StaysFrame live new e
-    → All (StaysFrame live new) (take (i + 1) elements)
-members-more live elements i e old new within there before kept own =
-    All-more (StaysFrame live new) elements i e within
-    (All-weaker (StaysFrame live old) (StaysFrame live new) (stays-kept live old new kept) (take i elements) before)
-    (subst (StaysFrame live new) there own)
+pub kinds-more : (live elements : List ElementValue) (i : ℕ) (e : ElementValue) (old new : List (List ℕ))
+    → i < length elements → e ≡ get_or elements i e → All (StaysKind live old) (take i elements)
+    → ((x : List ℕ) → is_among old x ≡ true → is_among new x ≡ true) → StaysKind live new e
+    → All (StaysKind live new) (take (i + 1) elements)
+kinds-more live elements i e old new within there before kept own =
+    All-more (StaysKind live new) elements i e within
+    (All-weaker (StaysKind live old) (StaysKind live new) (stays-kept live old new kept) (take i elements) before)
+    (subst (StaysKind live new) there own)
 
 -- what began some elements begins them with more ids
 pub started-kept : (elements : List ElementValue) (old new : List (List ℕ))
@@ -190,23 +197,7 @@ started-kept elements old new kept started =
     elements
     started
 
--- what was reached is reached with more ids
-pub reached-kept : (live : List ElementValue) (from old new : List (List ℕ))
-    → ((x : List ℕ) → is_among old x ≡ true → is_among new x ≡ true) → HaveReached live from old
-    → HaveReached live from new
-reached-kept live from old new kept reached = record {
-  one = reached.one;
-  two = reached.two;
-  first = reached.first;
-  second = reached.second;
-  third = record {
-    kept = λ x h. kept x (reached.third.kept x h);
-    linked = λ e x c own links. kept x (reached.third.linked e x c own links);
-    linking = λ e x c own links. kept e.id (reached.third.linking e x c own links);
-  };
-}
-
--- ---- where steps begin
+-- ---- where it begins
 pub started-more : (elements : List ElementValue) (i : ℕ) (e : ElementValue) (old mid new : List (List ℕ))
     → i < length elements → e ≡ get_or elements i e → AreStartedBy old (take i elements)
     → ((x : List ℕ) → is_among mid x ≡ (bytes_eq x e.id || is_among old x))

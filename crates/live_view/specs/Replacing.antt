@@ -13,7 +13,7 @@ use Rattle.view.specs.Settled.{settled}
 use Rattle.view.specs.Shown.{in_scene_order, without_index, IsView}
 use Rattle.live_view.specs.declared.places.Put.{Put}
 use Rattle.live_view.specs.Putting.{puts_of, IsInPlace}
-use Rattle.live_view.specs.Reached.{is_among, AreStartedBy, AreSurrounded, HaveReached, StaysFrame}
+use Rattle.live_view.specs.Reached.{is_among, AreStartedBy, AreSurrounded, HaveReached, StaysKind}
 use Rattle.view.specs.Kept.{AreOthersAsStored, HaveRowsOf}
 
 -- the element of an id after new ones took the places of those of their ids
@@ -36,14 +36,14 @@ AreRowsOfAll elements rows =
     → has_row rows (record { named = named; namer = namer })
     ≡ list_any (names_as named namer) elements
 
--- What is shown anew: the elements near the new ones, and near what one of these frames no more, or
--- anew, settled among those near these and their frames, with the keys that they are shown with.
+-- What is shown anew: the elements near the new ones, and near all that name one of these whose
+-- kind is new, settled among what surrounds them, with the keys that they are shown with.
 pub record AreRepairs (live shown news : List ElementValue) (puts : List Put) : Type 0 where
   pub start : List (List ℕ)
   pub near : List (List ℕ)
   pub wide : List (List ℕ)
   pub started : AreStartedBy start news
-  pub frames_started : All (StaysFrame live start) news
+  pub kinds_started : All (StaysKind live start) news
   pub reached : HaveReached live start near
   pub surrounded : AreSurrounded live news near wide
   pub placed : All (IsInPlace shown) puts

@@ -18,7 +18,7 @@ use crate::ids::Ids;
 use crate::kept::{Kept, Parts, joined};
 use crate::order::scene_order;
 use crate::places::{Put, order_of, place_of, place_shown, put_all, replace};
-use crate::reach::{add_framed, reached, started_by, surrounded};
+use crate::reach::{add_all_namers, is_much, reached, started_by, surrounded};
 use crate::replacing::{puts_near, settled_after, with_index};
 use crate::runs::{Rekeying, keys_with, keys_without, stored_of};
 use crate::sharing::shared_as;
@@ -38,7 +38,7 @@ struct Coming {
     puts: Vec<Put>,
 }
 
-/// The ids of what is near an element, and of what is near that, with its frames.
+/// The ids of what is near an element, and of what surrounds that.
 #[derive(Drop)]
 struct Around {
     near: Ids,
@@ -187,6 +187,9 @@ fn draw_coming(
         (λ c. IsComing live.now.items shown.now.items e.now c.own c.puts.items)) }
 {
     let around = find_around(alloc, live, table, e)?;
+    if is_much(&around.near, live) {
+        return Ok(None);
+    }
     let news = alone(alloc, e)?;
     let part = settled_after(alloc, live, &news, &around.wide.list)?;
     let Some(own) = element_in(&part, e.id())? else {
@@ -213,12 +216,15 @@ fn draw_going(
         (λ found. IfSome found (λ puts. IsGoing live.now.items shown.now.items e.now puts.items)) }
 {
     let around = find_around(alloc, live, table, e)?;
+    if is_much(&around.near, live) {
+        return Ok(None);
+    }
     let others = around.wide.without(alloc, e.id())?;
     let part = settled_after(alloc, live, &Vec::new(alloc), &others.list)?;
     puts_beside(alloc, live, shown, part, &around.near, e.id())
 }
 
-/// What is near an element, and near what it frames, and what is near that, with its frames.
+/// What is near an element and all that name it, and what surrounds that.
 fn find_around(
     alloc: Global,
     live: &Vec<SharedElement>,
@@ -234,7 +240,7 @@ fn find_around(
 {
     let news = alone(alloc, e)?;
     let mut start = started_by(alloc, &news)?;
-    add_framed(&mut start, e.get(), live, table)?;
+    add_all_namers(&mut start, e.id(), live, table)?;
     let near = reached(alloc, &start, live, table)?;
     let wide = surrounded(alloc, &near, &news, live, table)?;
     Ok(Around { near, wide })

@@ -1,23 +1,26 @@
-//! What is near elements by steps of links, and the frames that are named there.
+//! What is near elements over links, what surrounds that, and the frames that are named there.
 
-ghost use Rattle.std.specs.Prelude.{◌≡◌, ◌⊎◌, ℕ, List as Items, ◌∷◌, [], ◌||◌, true, false, All, Contains, Some, OnOk, IfOk, bytes_eq};
+ghost use Rattle.std.specs.Prelude.{◌≡◌, ℕ, List as Items, not, ◌||◌, true, All, Contains, Some, IsTrue, OnOk, IfOk};
 ghost use Rattle.frac_keys.specs.Rising.{are_rising};
 ghost use Rattle.elem.specs.ElementValue.{ElementValue};
 ghost use Rattle.elem_store.specs.Updates as updates;
 ghost use Rattle.elem_store.specs.Updates.{ids_of};
-ghost use Rattle.frames_groups.specs.Frames as frames;
+ghost use Rattle.links.specs.Looks.{kind_at};
+ghost use Rattle.links.specs.Names as names;
 ghost use Rattle.links.specs.Names.{is_id};
 ghost use Rattle.links.specs.Steps as steps;
-ghost use Rattle.live_view.specs.Reached.{is_among, is_frame_there, AreIds, AreStartedBy, AreSurrounded, HasMembers, HaveFrames, HaveReached, HaveStepped, StaysFrame};
+ghost use Rattle.live_view.specs.Reached.{is_among, is_text_or_to, is_text_there, is_to_text, AreIds, AreStartedBy, AreSurrounded, HasNamers, HaveFrames, HaveLinked, HaveNamers, HaveReached, StaysKind};
 ghost use Rattle.view.specs.Kept.{HaveRowsOf};
 
 use crate::ids::Ids;
 use crate::places::element_of;
-use elem::{Element, SharedElement};
-use frames_groups::is_frame;
+use elem::{Element, Kind, SharedElement};
 use json_text::Text;
-use links::{LinkTable, linked_ids, links_to};
+use links::{LinkTable, is_text, linked_ids, links_to};
 use std::alloc::{AllocError, Global};
+
+/// So many elements are never much, as on a small board all is made anew as fast as some of it.
+const ALWAYS_FEW: usize = 16;
 
 /// The ids of elements, and those that they link to.
 pub(crate) fn started_by(alloc: Global, elements: &[SharedElement]) -> Result<Ids, AllocError>
@@ -32,9 +35,9 @@ pub(crate) fn started_by(alloc: Global, elements: &[SharedElement]) -> Result<Id
     Ok(ids)
 }
 
-/// Adds all that name one of these elements, where that is a frame and what is held of its id is
-/// none, or the other way: what it frames is framed anew, or no more.
-pub(crate) fn add_members(
+/// Adds all that name one of these elements, where what is held of its id is of another kind, or
+/// where there is none: they may keep what they name no more, or anew.
+pub(crate) fn add_namers(
     ids: &mut Ids,
     elements: &Vec<SharedElement>,
     live: &Vec<SharedElement>,
@@ -46,18 +49,18 @@ pub(crate) fn add_members(
     ensures are { OnOk result (AreIds ids.new.list.items ids.new.seen) }
     ensures kept { OnOk result ((id : Items ℕ) → is_among ids.old.list.items id ≡ true
         → is_among ids.new.list.items id ≡ true) }
-    ensures members { OnOk result (All (StaysFrame live.now.items ids.new.list.items)
+    ensures namers { OnOk result (All (StaysKind live.now.items ids.new.list.items)
         elements.now.items) }
 {
     for e in elements {
-        add_members_of(ids, e.get(), live, table)?;
+        add_namers_of(ids, e.get(), live, table)?;
     }
     Ok(())
 }
 
-/// Adds all that name an element, where that is a frame and what is held of its id is none, or
-/// the other way.
-fn add_members_of(
+/// Adds all that name an element, where what is held of its id is of another kind, or where there
+/// is none.
+fn add_namers_of(
     ids: &mut Ids,
     e: &Element,
     live: &Vec<SharedElement>,
@@ -69,19 +72,18 @@ fn add_members_of(
     ensures are { OnOk result (AreIds ids.new.list.items ids.new.seen) }
     ensures kept { OnOk result ((id : Items ℕ) → is_among ids.old.list.items id ≡ true
         → is_among ids.new.list.items id ≡ true) }
-    ensures members { OnOk result (StaysFrame live.now.items ids.new.list.items e.now) }
+    ensures namers { OnOk result (StaysKind live.now.items ids.new.list.items e.now) }
 {
-    if is_frame_held(live, &e.id) == is_frame(e) {
+    if is_kind_held(live, e) {
         return Ok(());
     }
-    ids.add_all(table.namers(&e.id))
+    add_all_namers(ids, &e.id, live, table)
 }
 
-/// Adds all that name an element, if it is a frame: where it comes or goes, what it frames is
-/// framed anew, or no more.
-pub(crate) fn add_framed(
+/// Adds all that name an id.
+pub(crate) fn add_all_namers(
     ids: &mut Ids,
-    e: &Element,
+    id: &Text,
     live: &Vec<SharedElement>,
     table: &LinkTable,
 ) -> Result<(), AllocError>
@@ -89,29 +91,48 @@ pub(crate) fn add_framed(
     requires ordered { are_rising (ids_of live.now.items) ≡ true }
     requires table { HaveRowsOf live.now.items table.now.rows }
     ensures are { OnOk result (AreIds ids.new.list.items ids.new.seen) }
-    ensures kept { OnOk result ((id : Items ℕ) → is_among ids.old.list.items id ≡ true
-        → is_among ids.new.list.items id ≡ true) }
-    ensures members { OnOk result ((frames.is_frame e.now ≡ false)
-        ⊎ HasMembers live.now.items ids.new.list.items e.now.id) }
+    ensures kept { OnOk result ((other : Items ℕ) → is_among ids.old.list.items other ≡ true
+        → is_among ids.new.list.items other ≡ true) }
+    ensures namers { OnOk result (HasNamers live.now.items ids.new.list.items id.now) }
 {
-    if !is_frame(e) {
-        return Ok(());
-    }
-    ids.add_all(table.namers(&e.id))
+    ids.add_all(table.namers(id))
 }
 
-/// Whether what is held of an id is a frame.
-fn is_frame_held(live: &Vec<SharedElement>, id: &Text) -> bool
+/// Whether what is held of an element's id is of its kind.
+fn is_kind_held(live: &Vec<SharedElement>, e: &Element) -> bool
     requires { are_rising (ids_of live.now.items) ≡ true }
-    ensures { result ≡ is_frame_there (updates.element_of live.now.items id.now) }
+    ensures { IsTrue result → kind_at live.now.items e.now.id ≡ Some e.now.kind }
 {
-    match element_of(live, id) {
-        Some(e) => is_frame(e),
+    match element_of(live, &e.id) {
+        Some(held) => have_one_kind(held, e),
         None => false,
     }
 }
 
-/// The ids, and what is at most three steps of links from them.
+/// Whether two elements are of one kind that is known.
+fn have_one_kind(e: &Element, other: &Element) -> bool
+    ensures { IsTrue result → e.now.kind ≡ other.now.kind }
+{
+    matches!(
+        (&e.kind, &other.kind),
+        (Kind::Rectangle, Kind::Rectangle)
+            | (Kind::Diamond, Kind::Diamond)
+            | (Kind::Ellipse, Kind::Ellipse)
+            | (Kind::Arrow, Kind::Arrow)
+            | (Kind::Line, Kind::Line)
+            | (Kind::Freedraw, Kind::Freedraw)
+            | (Kind::Text, Kind::Text)
+            | (Kind::Image, Kind::Image)
+            | (Kind::Frame, Kind::Frame)
+            | (Kind::Magicframe, Kind::Magicframe)
+            | (Kind::Iframe, Kind::Iframe)
+            | (Kind::Embeddable, Kind::Embeddable)
+    )
+}
+
+/// The ids of what may be settled otherwise once the elements of some ids change: these, what they
+/// link to, the texts in all that, and what links to a text among these. The arrows that are bound
+/// to what else these link to look at its kind alone.
 pub(crate) fn reached(
     alloc: Global,
     from: &Ids,
@@ -124,13 +145,21 @@ pub(crate) fn reached(
     ensures reached { IfOk result
         (λ ids. HaveReached live.now.items from.now.list.items ids.list.items) }
 {
-    let one = stepped(alloc, from, live, table)?;
-    let two = stepped(alloc, &one, live, table)?;
-    stepped(alloc, &two, live, table)
+    let one = with_linked(alloc, from, live)?;
+    let two = with_texts(alloc, &one, live, table)?;
+    with_links_to_texts(alloc, &two, live, table)
 }
 
-/// What is needed to settle what is near: what is at most three steps of links from it, and the
-/// frames that it names, before and after new elements took their places.
+/// Whether so much is near that a view made anew costs less than to follow the change: each of
+/// these is looked for at its place in both kept views, which costs about four times what an
+/// element costs that is shown anew with all others.
+pub(crate) fn is_much(near: &Ids, live: &Vec<SharedElement>) -> bool {
+    near.list.len() > ALWAYS_FEW + live.len() / 4
+}
+
+/// What is needed to settle what is near: what it links to, and what that links to; what links to
+/// it, and the texts that link to all these; and the frames that it names, before and after new
+/// elements took their places.
 pub(crate) fn surrounded(
     alloc: Global,
     near: &Ids,
@@ -138,20 +167,37 @@ pub(crate) fn surrounded(
     live: &Vec<SharedElement>,
     table: &LinkTable,
 ) -> Result<Ids, AllocError>
+    requires near { AreIds near.now.list.items near.now.seen }
     requires ordered { are_rising (ids_of live.now.items) ≡ true }
     requires table { HaveRowsOf live.now.items table.now.rows }
     ensures are { IfOk result (λ ids. AreIds ids.list.items ids.seen) }
     ensures surrounded { IfOk result
         (λ ids. AreSurrounded live.now.items news.now.items near.now.list.items ids.list.items) }
 {
-    let mut wide = reached(alloc, near, live, table)?;
+    let one = with_linked(alloc, near, live)?;
+    let two = with_linked(alloc, &one, live)?;
+    let mut wide = with_namers(alloc, near, &two, live, table)?;
     add_frames_at(&mut wide, near, live)?;
     add_frames_of(&mut wide, news)?;
     Ok(wide)
 }
 
-/// The ids, and what is one step of links from them.
-fn stepped(
+/// The ids, and what their elements link to.
+fn with_linked(alloc: Global, from: &Ids, live: &Vec<SharedElement>) -> Result<Ids, AllocError>
+    requires { are_rising (ids_of live.now.items) ≡ true }
+    ensures are { IfOk result (λ ids. AreIds ids.list.items ids.seen) }
+    ensures linked { IfOk result
+        (λ ids. HaveLinked live.now.items from.now.list.items from.now.list.items ids.list.items) }
+{
+    let mut to = from.copied(alloc)?;
+    for id in &from.list {
+        add_linked_by(alloc, &mut to, id, live)?;
+    }
+    Ok(to)
+}
+
+/// The ids, and the texts that link to them.
+fn with_texts(
     alloc: Global,
     from: &Ids,
     live: &Vec<SharedElement>,
@@ -160,34 +206,59 @@ fn stepped(
     requires ordered { are_rising (ids_of live.now.items) ≡ true }
     requires table { HaveRowsOf live.now.items table.now.rows }
     ensures are { IfOk result (λ ids. AreIds ids.list.items ids.seen) }
-    ensures stepped { IfOk result
-        (λ ids. HaveStepped live.now.items from.now.list.items from.now.list.items
+    ensures texts { IfOk result
+        (λ ids. HaveNamers is_text_there live.now.items from.now.list.items from.now.list.items
         ids.list.items) }
 {
     let mut to = from.copied(alloc)?;
     for id in &from.list {
-        add_neighbours(alloc, &mut to, id, live, table)?;
+        add_linking(&mut to, id, true, live, table)?;
     }
     Ok(to)
 }
 
-/// Adds what is one step of links from an id.
-fn add_neighbours(
+/// The ids, and what links to those of them that are texts.
+fn with_links_to_texts(
     alloc: Global,
-    ids: &mut Ids,
-    id: &Text,
+    from: &Ids,
     live: &Vec<SharedElement>,
     table: &LinkTable,
-) -> Result<(), AllocError>
-    requires ids { AreIds ids.old.list.items ids.old.seen }
+) -> Result<Ids, AllocError>
     requires ordered { are_rising (ids_of live.now.items) ≡ true }
     requires table { HaveRowsOf live.now.items table.now.rows }
-    ensures are { OnOk result (AreIds ids.new.list.items ids.new.seen) }
-    ensures stepped { OnOk result
-        (HaveStepped live.now.items (id.now ∷ []) ids.old.list.items ids.new.list.items) }
+    ensures are { IfOk result (λ ids. AreIds ids.list.items ids.seen) }
+    ensures to_texts { IfOk result
+        (λ ids. HaveNamers (is_to_text live.now.items) live.now.items from.now.list.items
+        from.now.list.items ids.list.items) }
 {
-    add_linked_by(alloc, ids, id, live)?;
-    add_linking(ids, id, live, table)
+    let mut to = from.copied(alloc)?;
+    for id in &from.list {
+        add_linking_to_text(&mut to, id, live, table)?;
+    }
+    Ok(to)
+}
+
+/// The ids, what links to those of them that are near, and the texts that link to the others.
+fn with_namers(
+    alloc: Global,
+    near: &Ids,
+    from: &Ids,
+    live: &Vec<SharedElement>,
+    table: &LinkTable,
+) -> Result<Ids, AllocError>
+    requires near { AreIds near.now.list.items near.now.seen }
+    requires ordered { are_rising (ids_of live.now.items) ≡ true }
+    requires table { HaveRowsOf live.now.items table.now.rows }
+    ensures are { IfOk result (λ ids. AreIds ids.list.items ids.seen) }
+    ensures namers { IfOk result
+        (λ ids. HaveNamers (is_text_or_to near.now.list.items) live.now.items from.now.list.items
+        from.now.list.items ids.list.items) }
+{
+    let mut to = from.copied(alloc)?;
+    for id in &from.list {
+        add_linking(&mut to, id, !near.has(id), live, table)?;
+    }
+    Ok(to)
 }
 
 /// Adds what the element of an id links to.
@@ -224,8 +295,8 @@ fn add_linked(alloc: Global, ids: &mut Ids, e: &Element) -> Result<(), AllocErro
     ids.add_all(linked.as_slice())
 }
 
-/// Adds what links to an id: of all that name it those that don't name it as their frame alone.
-fn add_linking(
+/// Adds what links to an id, if this is that of a text.
+fn add_linking_to_text(
     ids: &mut Ids,
     id: &Text,
     live: &Vec<SharedElement>,
@@ -238,20 +309,47 @@ fn add_linking(
     ensures kept { OnOk result ((other : Items ℕ) → is_among ids.old.list.items other ≡ true
         → is_among ids.new.list.items other ≡ true) }
     ensures linking { OnOk result ((e : ElementValue) → Contains live.now.items e
-        → steps.links_to id.now e ≡ true → is_among ids.new.list.items e.id ≡ true) }
+        → steps.links_to id.now e ≡ true → is_to_text live.now.items id.now e ≡ true
+        → is_among ids.new.list.items e.id ≡ true) }
+{
+    match element_of(live, id) {
+        Some(e) if is_text(e) => add_linking(ids, id, false, live, table),
+        _ => Ok(()),
+    }
+}
+
+/// Adds what links to an id, or the texts that do alone: of all that name it those that don't name
+/// it as their frame alone.
+fn add_linking(
+    ids: &mut Ids,
+    id: &Text,
+    texts_alone: bool,
+    live: &Vec<SharedElement>,
+    table: &LinkTable,
+) -> Result<(), AllocError>
+    requires ids { AreIds ids.old.list.items ids.old.seen }
+    requires ordered { are_rising (ids_of live.now.items) ≡ true }
+    requires table { HaveRowsOf live.now.items table.now.rows }
+    ensures are { OnOk result (AreIds ids.new.list.items ids.new.seen) }
+    ensures kept { OnOk result ((other : Items ℕ) → is_among ids.old.list.items other ≡ true
+        → is_among ids.new.list.items other ≡ true) }
+    ensures linking { OnOk result ((e : ElementValue) → Contains live.now.items e
+        → steps.links_to id.now e ≡ true → (not texts_alone || names.is_text e.kind) ≡ true
+        → is_among ids.new.list.items e.id ≡ true) }
 {
     let namers = table.namers(id);
     for namer in namers {
-        add_if_linking(ids, namer, id, live)?;
+        add_if_linking(ids, namer, id, texts_alone, live)?;
     }
     Ok(())
 }
 
-/// Adds a namer of an id, if it links to that.
+/// Adds a namer of an id, if it links to that, and is a text or need be none.
 fn add_if_linking(
     ids: &mut Ids,
     namer: &Text,
     id: &Text,
+    texts_alone: bool,
     live: &Vec<SharedElement>,
 ) -> Result<(), AllocError>
     requires ids { AreIds ids.old.list.items ids.old.seen }
@@ -261,10 +359,11 @@ fn add_if_linking(
         → is_among ids.new.list.items other ≡ true) }
     ensures linking { OnOk result ((e : ElementValue)
         → updates.element_of live.now.items namer.now ≡ Some e → steps.links_to id.now e ≡ true
+        → (not texts_alone || names.is_text e.kind) ≡ true
         → is_among ids.new.list.items namer.now ≡ true) }
 {
     match element_of(live, namer) {
-        Some(e) if links_to(id, e) => ids.add(namer),
+        Some(e) if (!texts_alone || is_text(e)) && links_to(id, e) => ids.add(namer),
         _ => Ok(()),
     }
 }

@@ -21,7 +21,7 @@ use crate::ids::Ids;
 use crate::kept::Kept;
 use crate::order;
 use crate::places::{Put, element_of, place_of, place_shown, put_all, shared_of};
-use crate::reach::{add_members, reached, started_by, surrounded};
+use crate::reach::{add_namers, is_much, reached, started_by, surrounded};
 use crate::sharing::shared_as;
 use crate::unsettled::{add_ids, ids_put, note_all, settle_all};
 use board_base::List;
@@ -129,8 +129,8 @@ pub(crate) fn rows_of_all(
     Ok(List::from_vec(rows))
 }
 
-/// What is near the new elements, and near what these frame no more or anew, at the places where it
-/// is shown, if these are found.
+/// What is near the new elements, and near all that name one whose kind is new, at the places where
+/// it is shown, if these are found.
 fn shown_puts(
     alloc: Global,
     live: &Vec<SharedElement>,
@@ -146,8 +146,11 @@ fn shown_puts(
         (λ puts. AreRepairs live.now.items shown.now.items news.now.items puts.items)) }
 {
     let mut start = started_by(alloc, news)?;
-    add_members(&mut start, news, live, table)?;
+    add_namers(&mut start, news, live, table)?;
     let near = reached(alloc, &start, live, table)?;
+    if is_much(&near, live) {
+        return Ok(None);
+    }
     let wide = surrounded(alloc, &near, news, live, table)?;
     let part = settled_after(alloc, live, news, &wide.list)?;
     puts_near(alloc, live, shown, part, &near)

@@ -9,4 +9,4 @@ pub use Rattle.view.proofs.ShownLaws.{HaveDistinctIds-rising, IsViewOf-from, del
 pub use Rattle.view.proofs.ShownLaws.{live_elements-live, live_elements-rise, live_one, placed-distinct, shown-again}
 pub use Rattle.view.proofs.ShownLaws.{shown-is, shown-keys, shown-settled, within_stored}
 pub use Rattle.view.proofs.ContentLaws.{shown-redrawn, stamps-play_no_part}
-pub use Rattle.view.proofs.StepLaws.{settled-alone, settled-keys, settled-unchanged}
+pub use Rattle.view.proofs.StepLaws.{settled-keys, settled-looks, settled-seen}

@@ -1,23 +1,23 @@
 -- What settling makes of one element rests on the elements at most three steps of links from it, on its frame, and on
 -- no key.
-use Rattle.std.proofs.Common.{◌≡◌, ℕ, Bool, true, false, cond, List, find, filter, map, Option, Some, None, Contains, refl, sym, ap, ap₂, ◌∙◌}
-use Rattle.std.specs.List.{list_any}
+use Rattle.std.proofs.Common.{◌≡◌, ℕ, Bool, true, false, cond, List, find, filter, map, Option, Some, None, bytes_eq, refl, sym, ap, ap₂, subst, ◌∙◌}
+use Rattle.std.specs.List.{list_any, IsDistinct}
 use Rattle.std.specs.Option.{option_map, option_map_or}
 use Rattle.std.proofs.lemmas.List.Elements.{filter_passes}
 use Rattle.elem.specs.ElementValue.{ElementValue}
 use Rattle.elem.specs.Order.{has_id, HaveDistinctIds}
 use Rattle.elem_store.specs.Updates.{element_of}
-use Rattle.frames_groups.specs.Frames.{is_frame, is_frame_of, has_frame, keeps_frame, without_frame, framed, frames_settled}
+use Rattle.frames_groups.specs.Frames.{is_frame_of, has_frame, keeps_frame, without_frame, framed, frames_settled}
 use Rattle.frames_groups.specs.Groups.{grouped, groups_settled}
 use Rattle.frames_groups.proofs.CallerLemmas.{framed-among}
 use Rattle.links.specs.Arrows.{with_settled_links}
 use Rattle.links.specs.Settled.{settled_links, unlinked, unplaced}
 use Rattle.links.specs.Steps.{is_within}
 use Rattle.links.specs.Texts.{with_settled_container, settled_texts}
-use Rattle.links.proofs.CallerLemmas.{bytes_eq-refl, find-map, find-Some, map-map, near-all, links-alone, found-settled, unlinked-links, list_any-map, links-unplaced}
+use Rattle.links.proofs.CallerLemmas.{find-map, map-map, near-all, near-seen, looks-alike, seen-alone, found-settled, unlinked-links, list_any-map, links-unplaced}
 use Rattle.view.specs.Settled.{settled}
 use Rattle.view.specs.Shown.{without_index}
-use Rattle.view.specs.Steps.{is_framed, settled_of, settled_but_for_key, AreAlikeNear, HasAllLinked, HasAllNear}
+use Rattle.view.specs.Steps.{is_framed, settled_of, settled_but_for_key, AreAlikeNear, HasAllLinked, HasAllNear, HasAllSeenFramed, LookAlikeFramed}
 use Rattle.view.proofs.SettledLaws.{same_elements}
 
 -- ---- keys play no part
@@ -79,10 +79,7 @@ found-framed list id =
     ∙ ap (option_map (framed (has_frame list))) (λ i. find (λ e. framed_of (has_frame list) id e i) list))
 
 module _ (list : List ElementValue) (among : ElementValue → Bool) (id : List ℕ) (distinct : HaveDistinctIds list)
-    (has_near : HasAllNear among list id) where
-  all_near : (e : ElementValue) → Contains list e → is_within 3 list id e ≡ true → among e ≡ true
-  all_near = near-all list among id has_near.linked
-
+    (seen : HasAllSeenFramed among list id) where
   framed-near : (o : Option ElementValue) → find (has_id id) list ≡ o
       → option_map (framed (has_frame (settled_links (filter among list))))
       (option_map (λ e. with_settled_links (settled_texts list) (with_settled_container list e)) o)
@@ -93,22 +90,29 @@ module _ (list : List ElementValue) (among : ElementValue → Bool) (id : List �
       let y = with_settled_links (settled_texts list) (with_settled_container list e) in
       ap Some
       ((λ i. framed (λ fid. frames-linked (filter among list) fid i) y)
-      ∙ framed-among list among y (λ frame there is_one names. has_near.framed e frame is names there is_one)
+      ∙ framed-among list among y (λ frame there is_one names. seen.framed e frame is names there is_one)
       ∙ (λ i. framed (λ fid. sym (frames-linked list fid) i) y))
 
-  pub settled-alone : settled_of (filter among list) id ≡ settled_of list id
+  pub settled-seen : settled_of (filter among list) id ≡ settled_of list id
   unfolding settled
-  settled-alone =
+  settled-seen =
       let names = has_frame (settled_links (filter among list)) in
-      let of_list = found-settled list among id distinct all_near list in
+      let of_list = found-settled id list in
       found-framed (settled_links (filter among list)) id
-      ∙ ap (λ o. option_map grouped (option_map (framed names) o)) (links-alone list among id distinct all_near)
+      ∙ ap (λ o. option_map grouped (option_map (framed names) o)) (seen-alone list among id distinct seen.linked)
       ∙ ap (λ o. option_map grouped (option_map (framed names) o)) of_list
       ∙ ap (option_map grouped) (framed-near (find (has_id id) list) refl)
       ∙ ap (λ o. option_map grouped (option_map (framed (has_frame (settled_links list))) o)) (sym of_list)
       ∙ sym (found-framed (settled_links list) id)
 
--- ---- two lists whose elements of some kind are the same, but for their keys
+pub settled-alone : (list : List ElementValue) (among : ElementValue → Bool) (id : List ℕ) → HaveDistinctIds list
+    → HasAllNear among list id → settled_of (filter among list) id ≡ settled_of list id
+settled-alone list among id distinct near = settled-seen list among id distinct (record {
+  linked = near-seen list among id (near-all list among id near.linked);
+  framed = near.framed;
+})
+
+-- ---- what settling makes of an element but for its key
 -- an element that keeps its frame name or not
 abbrev framed_if : Bool → ElementValue → ElementValue
 framed_if keeps e = cond keeps e (without_frame e)
@@ -120,17 +124,7 @@ framed_all keeps o = option_map grouped (option_map (framed_if keeps) o)
 abbrev linked_but_for_key : List ElementValue → List ℕ → Option ElementValue
 linked_but_for_key list id = option_map without_index (find (has_id id) (settled_links list))
 
-module _ (list : List ElementValue) (among : ElementValue → Bool) (id : List ℕ) (distinct : HaveDistinctIds list)
-    (has_linked : HasAllLinked among list id) where
-  linked_near : (e : ElementValue) → Contains list e → is_within 3 list id e ≡ true → among e ≡ true
-  linked_near = near-all list among id has_linked
-
-  linked-keys : linked_but_for_key list id ≡ find (has_id id) (settled_links (map without_index (filter among list)))
-  linked-keys =
-      ap (option_map without_index) (sym (links-alone list among id distinct linked_near))
-      ∙ sym (find-map (has_id id) without_index (settled_links (filter among list)))
-      ∙ ap (find (has_id id)) (sym (links-keys (filter among list)))
-
+module _ (list : List ElementValue) (id : List ℕ) where
   -- the frame name is kept as it is before links are settled
   framed-as : (o : Option ElementValue) → find (has_id id) list ≡ o
       → option_map without_index (option_map grouped
@@ -151,18 +145,47 @@ module _ (list : List ElementValue) (among : ElementValue → Bool) (id : List �
       kept true y = refl
       kept false y = refl
 
-  pub settled-as : settled_but_for_key list id
-      ≡ framed_all (is_framed list id) (find (has_id id) (settled_links (map without_index (filter among list))))
+  settled-framed : settled_but_for_key list id ≡ framed_all (is_framed list id) (linked_but_for_key list id)
   unfolding settled
-  settled-as =
-      let of_list = found-settled list among id distinct linked_near list in
+  settled-framed =
+      let of_list = found-settled id list in
       ap (option_map without_index)
       (found-framed (settled_links list) id
       ∙ ap (λ o. option_map grouped (option_map (framed (has_frame (settled_links list))) o)) of_list)
       ∙ framed-as (find (has_id id) list) refl
       ∙ ap (λ o. framed_all (is_framed list id) (option_map without_index o)) (sym of_list)
-      ∙ ap (framed_all (is_framed list id)) linked-keys
 
+  linked-keyless : linked_but_for_key list id ≡ find (has_id id) (settled_links (map without_index list))
+  linked-keyless =
+      sym (find-map (has_id id) without_index (settled_links list)) ∙ ap (find (has_id id)) (sym (links-keys list))
+
+module _ (list : List ElementValue) (among : ElementValue → Bool) (id : List ℕ) (distinct : HaveDistinctIds list)
+    (has_linked : HasAllLinked among list id) where
+  pub settled-as : settled_but_for_key list id
+      ≡ framed_all (is_framed list id) (find (has_id id) (settled_links (map without_index (filter among list))))
+  settled-as =
+      settled-framed list id
+      ∙ ap (framed_all (is_framed list id))
+      (ap (option_map without_index)
+      (sym (seen-alone list among id distinct (near-seen list among id (near-all list among id has_linked))))
+      ∙ linked-keyless (filter among list) id)
+
+-- ---- two lists that look alike to an element
+distinct-keyless : (list : List ElementValue) → HaveDistinctIds list → HaveDistinctIds (map without_index list)
+distinct-keyless list distinct =
+    subst (IsDistinct bytes_eq) (sym (map-map (λ (e : ElementValue). e.id) without_index list)) distinct
+
+pub settled-looks : (list other : List ElementValue) (id : List ℕ) → HaveDistinctIds list → HaveDistinctIds other
+    → LookAlikeFramed list other id → settled_but_for_key list id ≡ settled_but_for_key other id
+settled-looks list other id distinct apart look =
+    settled-framed list id
+    ∙ ap₂ framed_all look.framed (linked-keyless list id
+    ∙ looks-alike (map without_index list) (map without_index other) id (distinct-keyless list distinct)
+    (distinct-keyless other apart) look.linked
+    ∙ sym (linked-keyless other id))
+    ∙ sym (settled-framed other id)
+
+-- ---- two lists whose elements that pass a test are the same, but for their keys
 pub settled-unchanged : (list other : List ElementValue) (among : ElementValue → Bool) (id : List ℕ)
     → HaveDistinctIds list → HaveDistinctIds other
     → map without_index (filter among list) ≡ map without_index (filter among other) → HasAllLinked among list id

@@ -4,6 +4,7 @@ use Rattle.std.specs.Option.{option_map_or}
 use Rattle.elem.specs.ElementValue.{ElementValue}
 use Rattle.elem_store.specs.Updates.{element_of}
 use Rattle.frames_groups.specs.Frames.{is_frame, has_frame, keeps_frame}
+use Rattle.links.specs.Looks.{HasAllSeen, LookAlike}
 use Rattle.links.specs.Steps.{near}
 use Rattle.view.specs.Settled.{settled}
 use Rattle.view.specs.Shown.{without_index}
@@ -36,5 +37,19 @@ HasAllLinked among list id = All (λ e. IsTrue (among e)) (near list id)
 pub record HasAllNear (among : ElementValue → Bool) (list : List ElementValue) (id : List ℕ) :
     Type 0 where
   pub linked : HasAllLinked among list id
+  pub framed : (e frame : ElementValue) → element_of list id ≡ Some e → e.frame ≡ Some frame.id
+      → Contains list frame → is_frame frame ≡ true → among frame ≡ true
+
+-- Two lists look alike, but for keys, to the element of an id, and it keeps its frame name in both
+-- or in none.
+pub record LookAlikeFramed (list other : List ElementValue) (id : List ℕ) : Type 0 where
+  pub linked : LookAlike (map without_index list) (map without_index other) id
+  pub framed : is_framed list id ≡ is_framed other id
+
+-- A test that all pass at which settling looks for the element of an id, and the frame that this
+-- names, if the list has it.
+pub record HasAllSeenFramed (among : ElementValue → Bool) (list : List ElementValue)
+    (id : List ℕ) : Type 0 where
+  pub linked : HasAllSeen among list id
   pub framed : (e frame : ElementValue) → element_of list id ≡ Some e → e.frame ≡ Some frame.id
       → Contains list frame → is_frame frame ≡ true → among frame ≡ true

@@ -6,7 +6,7 @@ ghost use Rattle.elem.specs.ElementValue.{ElementValue};
 ghost use Rattle.view.specs.Settled.{settled};
 ghost use Rattle.elem.specs.Order.{HaveDistinctIds};
 ghost use Rattle.view.specs.Shown.{without_index};
-ghost use Rattle.view.specs.Steps.{is_framed, settled_of, settled_but_for_key, AreAlikeNear, HasAllLinked, HasAllNear};
+ghost use Rattle.view.specs.Steps.{is_framed, settled_of, settled_but_for_key, AreAlikeNear, HasAllLinked, HasAllNear, HasAllSeenFramed, LookAlikeFramed};
 
 /// What texts, arrows, frames and groups make of an element depends on the elements at most three
 /// steps of links from it, and on whether there is a frame of the id that it names as its frame:
@@ -34,6 +34,25 @@ pub fn three_steps_are_enough()
         → HasAllLinked among list id → HasAllLinked among other id
         → is_framed list id ≡ is_framed other id
         → settled_but_for_key list id ≡ settled_but_for_key other id }
+{}
+
+/// Of what is at most three steps of links away, much plays no part: settling looks at an element;
+/// at the arrows and texts that name it; at its container, if it is a text, and the texts that name
+/// this; at the kind of what its ends name, and at the container of a text among these; and at its
+/// frame. At the other arrows that are bound to what its ends name, and at the listing of that, it
+/// doesn't look.
+pub fn what_is_seen_is_enough()
+    // Where two lists look alike to an element but for keys, settling makes the same of it in both,
+    // but for its key.
+    ensures alike { (list other : List ElementValue) (id : List ℕ)
+        → HaveDistinctIds list → HaveDistinctIds other → LookAlikeFramed list other id
+        → settled_but_for_key list id ≡ settled_but_for_key other id }
+
+    // Settling some of the elements makes of one what settling all makes of it, if all at which it
+    // looks for this one is among them.
+    ensures alone { (list : List ElementValue) (among : ElementValue → Bool) (id : List ℕ)
+        → HaveDistinctIds list → HasAllSeenFramed among list id
+        → settled_of (filter among list) id ≡ settled_of list id }
 {}
 
 /// Keys play no part in settling.

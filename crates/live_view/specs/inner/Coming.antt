@@ -1,16 +1,15 @@
 -- An element that comes to a view, or goes. This project's own.
-use Rattle.std.specs.Prelude.{◌≡◌, ◌⊎◌, ℕ, zero, suc, ◌+◌, ◌<◌, ◌≤◌, List, [], ◌∷◌, length, true, false, not, ◌&&◌, Some, None, All, bytes_eq, filter, filter_map, map, slice_index_or, if◌then◌else◌}
+use Rattle.std.specs.Prelude.{◌≡◌, ℕ, zero, suc, ◌+◌, ◌<◌, ◌≤◌, List, [], ◌∷◌, length, true, not, ◌&&◌, Some, None, All, bytes_eq, filter, filter_map, map, slice_index_or, if◌then◌else◌}
 use Rattle.std.specs.List.{IsDistinct}
 use Rattle.frac_keys.specs.Rising.{are_rising}
 use Rattle.elem.specs.ElementValue.{ElementValue}
 use Rattle.elem_store.specs.Updates.{element_of, ids_of}
-use Rattle.frames_groups.specs.Frames.{is_frame}
 use Rattle.view.specs.Settled.{settled}
 use Rattle.index_repair.specs.Keyed.{with_index}
 use Rattle.view.specs.Shown.{as_stored, comes_before, in_scene_order, without_index}
 use Rattle.live_view.specs.declared.places.Put.{Put}
 use Rattle.live_view.specs.Putting.{puts_of, IsInPlace}
-use Rattle.live_view.specs.Reached.{is_among, AreStartedBy, AreSurrounded, HasMembers, HaveReached}
+use Rattle.live_view.specs.Reached.{is_among, AreStartedBy, AreSurrounded, HasNamers, HaveReached}
 use Rattle.live_view.specs.Replacing.{element_after}
 
 -- The element of an id is gone, and all others are as they were.
@@ -39,12 +38,12 @@ pub record AreOthers (id : List ℕ) (ids others : List (List ℕ)) : Type 0 whe
   pub each : (other : List ℕ)
       → is_among others other ≡ (not (bytes_eq other id) && is_among ids other)
 
--- What is near an element, or is framed by it, and what is near that.
+-- What is near an element and all that name it, and what surrounds that.
 pub record AreAround (live : List ElementValue) (e : ElementValue)
     (near wide : List (List ℕ)) : Type 0 where
   pub start : List (List ℕ)
   pub started : AreStartedBy start (e ∷ [])
-  pub members : (is_frame e ≡ false) ⊎ HasMembers live start e.id
+  pub namers : HasNamers live start e.id
   pub reached : HaveReached live start near
   pub surrounded : AreSurrounded live (e ∷ []) near wide
 

@@ -7,10 +7,11 @@ pub returns-clause-around : goal.returns-clause-around
 returns-clause-around c =
     let first = c.in_ok-start.start.list.items in
     record {
-      start = c.add_framed.new.ids.list.items;
-      started = started-kept (c.args.e.now ∷ []) first c.add_framed.new.ids.list.items c.in_ok-add_framed.ensures.kept
+      start = c.add_all_namers.new.ids.list.items;
+      started =
+          started-kept (c.args.e.now ∷ []) first c.add_all_namers.new.ids.list.items c.in_ok-add_all_namers.ensures.kept
           (subst (AreStartedBy first) (c.deref.ensures.value ∙ c.in_ok-news.ensures) c.in_ok-start.ensures.started);
-      members = rw c.get.ensures at c.in_ok-add_framed.ensures.members;
+      namers = rw c.id.ensures at c.in_ok-add_all_namers.ensures.namers;
       reached = c.in_ok-near.ensures.reached;
       surrounded = rw c.in_ok-news.ensures at c.in_ok-wide.ensures.surrounded;
     }

@@ -12,13 +12,13 @@ returns c =
     IfOk-weaker c.puts_near.result _ _
     (λ found is. IfSome-weaker _ _
     (λ puts drawn. record {
-      start = c.add_members.new.ids.list.items;
+      start = c.add_namers.new.ids.list.items;
       near = c.in_ok-near.near.list.items;
       wide = c.in_ok-wide.wide.list.items;
-      started = started-kept c.args.news.now.items c.in_ok-start.start.list.items c.add_members.new.ids.list.items
-          c.in_ok-add_members.ensures.kept
+      started = started-kept c.args.news.now.items c.in_ok-start.start.list.items c.add_namers.new.ids.list.items
+          c.in_ok-add_namers.ensures.kept
           (rw c.deref.ensures.value at c.in_ok-start.ensures.started);
-      frames_started = c.in_ok-add_members.ensures.members;
+      kinds_started = c.in_ok-add_namers.ensures.namers;
       reached = c.in_ok-near.ensures.reached;
       surrounded = c.in_ok-wide.ensures.surrounded;
       placed = drawn.0;

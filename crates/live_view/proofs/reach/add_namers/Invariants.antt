@@ -1,10 +1,10 @@
 use Rattle.std.proofs.Common.{◌≡◌, ℕ, List, All, true, take}
-use Rattle.live_view.specs.Reached.{is_among, AreIds, StaysFrame}
-use Rattle.live_view.proofs.reach.add_members.Given as goal
+use Rattle.live_view.specs.Reached.{is_among, AreIds, StaysKind}
+use Rattle.live_view.proofs.reach.add_namers.Given as goal
 
 abbrev pub invariant-loop-e : goal.invariant-loop-e
 invariant-loop-e l = record {
   are : AreIds l.ids.list.items l.ids.seen;
   kept : (x : List ℕ) → is_among l.fn.ids.list.items x ≡ true → is_among l.ids.list.items x ≡ true;
-  members : All (StaysFrame l.live.items l.ids.list.items) (take l.e-index l.elements.items);
+  namers : All (StaysKind l.live.items l.ids.list.items) (take l.e-index l.elements.items);
 }

@@ -1,0 +1,17 @@
+use Rattle.std.proofs.Common.{ap, ◌∙◌}
+use Rattle.std.proofs.lemmas.Bool.{or_left}
+use Rattle.std.proofs.lemmas.Result.{on_ok_weaker}
+use Rattle.live_view.specs.Reached.{is_among}
+use Rattle.live_view.proofs.Stepping.{namers-among}
+use Rattle.live_view.proofs.reach.add_all_namers.Goals as goal
+
+pub returns-clause-namers : goal.returns-clause-namers
+returns-clause-namers c =
+    on_ok_weaker c.add_all.result
+    (λ are m there names.
+    are m.id
+    ∙ or_left (is_among c.namers.result.now m.id) (is_among c.args.ids.now.list.items m.id)
+    (ap (λ ids. is_among ids m.id) c.namers.ensures.exact
+    ∙ namers-among c.args.live.now.items c.args.table.now.rows c.args.id.now c.requires.ordered c.requires.table m
+    there names))
+    c.add_all.ensures.ids

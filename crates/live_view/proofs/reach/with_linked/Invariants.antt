@@ -1,0 +1,9 @@
+use Rattle.std.proofs.Common.{take}
+use Rattle.live_view.specs.Reached.{AreIds, HaveLinked}
+use Rattle.live_view.proofs.reach.with_linked.Given as goal
+
+abbrev pub invariant-loop-id : goal.invariant-loop-id
+invariant-loop-id l = record {
+  are : AreIds l.to.list.items l.to.seen;
+  linked : HaveLinked l.live.items (take l.id-index l.from.list.items) l.from.list.items l.to.list.items;
+}
