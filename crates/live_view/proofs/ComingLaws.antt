@@ -25,9 +25,9 @@ use Rattle.view.specs.Steps.{settled_but_for_key}
 use Rattle.view.proofs.CallerLemmas.{AllPairs-in_order, HaveDistinctIds-permuted, scene_order, IsPermutation-in_scene_order, distinct-settled, unsettled-settled, HaveDistinctIds-rising, shown-is}
 use Rattle.live_view.specs.declared.places.Put.{Put}
 use Rattle.live_view.specs.inner.Coming.{all_stored, part_with, part_of_ids, rekeyed, AreAround, ArePutBeside, HasGone, IsComing, IsGoing, IsPlaceFor}
-use Rattle.live_view.specs.Putting.{puts_of, IsInPlace, IsWithin, all_put}
-use Rattle.live_view.specs.Reached.{is_among, IsStartedBy, HaveReached, StaysKind}
-use Rattle.live_view.specs.Replacing.{element_after, HaveReplaced}
+use Rattle.live_view.specs.inner.Putting.{puts_of, IsInPlace, IsWithin, all_put}
+use Rattle.live_view.specs.inner.Reached.{is_among, IsStartedBy, HaveReached, StaysKind}
+use Rattle.live_view.specs.inner.Replacing.{element_after, HaveReplaced}
 use Rattle.live_view.specs.inner.Runs.{part_of, stored_keys, AreKeysWith, AreKeysWithout}
 use Rattle.live_view.proofs.Framed.{kinds-gone, kinds-replaced}
 use Rattle.live_view.proofs.NearLaws.{IsView-near, ids-settled, indices-placed, keyless, kept-order}

@@ -20,8 +20,8 @@ use Rattle.view.specs.Shown.{is_live, live_elements}
 use Rattle.view.proofs.CallerLemmas.{HaveDistinctIds-rising, live_elements-rise}
 use Rattle.live_view.specs.Changes.{AreSameButAt}
 use Rattle.live_view.specs.inner.Following.{followed, ArePicked, AreTaken, HaveFollowed}
-use Rattle.live_view.specs.Reached.{is_among}
-use Rattle.live_view.specs.Replacing.{element_after, HaveReplaced}
+use Rattle.live_view.specs.inner.Reached.{is_among}
+use Rattle.live_view.specs.inner.Replacing.{element_after, HaveReplaced}
 use Rattle.live_view.proofs.Followed.{if_live, live-is, element-live}
 
 -- ---- what is picked, one id more

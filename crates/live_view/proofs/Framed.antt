@@ -19,8 +19,8 @@ use Rattle.links.proofs.CallerLemmas.{list_any-found, list_any-from, list_any-ma
 use Rattle.view.specs.Shown.{in_scene_order, without_index}
 use Rattle.view.specs.Steps.{is_framed}
 use Rattle.view.proofs.CallerLemmas.{IsPermutation-in_scene_order}
-use Rattle.live_view.specs.Reached.{is_among, HasNamers, StaysKind}
-use Rattle.live_view.specs.Replacing.{element_after}
+use Rattle.live_view.specs.inner.Reached.{is_among, HasNamers, StaysKind}
+use Rattle.live_view.specs.inner.Replacing.{element_after}
 use Rattle.live_view.proofs.Stepping.{framed-named}
 
 -- what elements of no id of these name is of one kind after a change and before it, and what they name as their frame

@@ -14,10 +14,10 @@ use Rattle.view.specs.Shown.{is_live, IsView}
 use Rattle.view.proofs.CallerLemmas.{HaveDistinctIds-rising}
 use Rattle.live_view.specs.declared.places.Put.{Put}
 use Rattle.live_view.specs.Changes.{redrawn_as}
-use Rattle.live_view.specs.Putting.{puts_of, IsInPlace, all_put}
+use Rattle.live_view.specs.inner.Putting.{puts_of, IsInPlace, all_put}
 use Rattle.view.specs.Kept.{AreOthersAsStored, HaveRowsOf}
 use Rattle.live_view.specs.inner.Unsettled.{put_ids, HasNoted, StillHas}
-use Rattle.live_view.specs.Replacing.{AreRepairs, AreRowsOfAll, HaveReplaced, IsLiveView}
+use Rattle.live_view.specs.inner.Replacing.{AreRepairs, AreRowsOfAll, HaveReplaced, IsLiveView}
 use Rattle.live_view.proofs.Redrawn.{element-redrawn}
 use Rattle.live_view.proofs.RowLaws.{rows-replaced}
 use Rattle.live_view.proofs.ShownAfter.{has-replaced, view-after}

@@ -17,7 +17,7 @@ use Rattle.index_repair.specs.Keyed.{index_of, keyed, HaveKeysOrNone}
 use Rattle.view.specs.Shown.{is_live, comes_before, in_scene_order, without_index, placed, shown, IsView}
 use Rattle.view.specs.Steps.{is_framed, settled_but_for_key, HasAllSeenFramed}
 use Rattle.view.proofs.CallerLemmas.{AllPairs-in_order, HaveDistinctIds-permuted, scene_order, IsPermutation-in_scene_order, distinct-settled, unsettled-settled, HaveDistinctIds-rising, placed-distinct, settled-keys, settled-looks, settled-seen}
-use Rattle.live_view.specs.Reached.{is_among, AreStartedBy, AreSurrounded, HaveReached}
+use Rattle.live_view.specs.inner.Reached.{is_among, AreStartedBy, AreSurrounded, HaveReached}
 use Rattle.live_view.proofs.ByIds.{same-by_ids}
 use Rattle.live_view.proofs.Framed.{AreKindsKept, framed-alike}
 use Rattle.live_view.proofs.Picked.{picked-in_order, same-in_order}

@@ -22,8 +22,8 @@ use Rattle.index_repair.specs.Keyed.{index_of}
 use Rattle.view.specs.Shown.{comes_before, place_less, in_scene_order, AreInSceneOrder}
 use Rattle.view.proofs.CallerLemmas.{AllPairs-in_order, HaveDistinctIds-permuted, same_sorted, place_cmp, place_cmp-total, comes_before-cmp, scene_order, IsPermutation-in_scene_order, HaveDistinctIds-rising}
 use Rattle.std.specs.Option.{option_or}
-use Rattle.live_view.specs.Reached.{is_among}
-use Rattle.live_view.specs.Replacing.{element_after}
+use Rattle.live_view.specs.inner.Reached.{is_among}
+use Rattle.live_view.specs.inner.Replacing.{element_after}
 
 -- ---- what is found for some ids
 abbrev IsFrom : (List ℕ → Option ElementValue) → List (List ℕ) → ElementValue → Type 0

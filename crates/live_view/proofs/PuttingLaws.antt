@@ -17,7 +17,7 @@ use Rattle.index_repair.specs.Keyed.{index_of}
 use Rattle.view.specs.Shown.{without_index}
 use Rattle.live_view.specs.declared.places.Put.{Put}
 use Rattle.live_view.proofs.ByIds.{none_apart}
-use Rattle.live_view.specs.Putting.{puts_of, IsWithin, IsInPlace, all_put}
+use Rattle.live_view.specs.inner.Putting.{puts_of, IsWithin, IsInPlace, all_put}
 
 -- what is said of what is put, if anything is, says what follows from it
 pub IfSome-weaker : {A : Type 0} (P Q : A → Type 0) → ((a : A) → P a → Q a) → (o : Option A) → IfSome o P → IfSome o Q

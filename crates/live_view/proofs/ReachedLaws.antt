@@ -18,7 +18,7 @@ use Rattle.links.proofs.CallerLemmas.{Contains-map, container-named, end-named, 
 use Rattle.view.specs.Shown.{in_scene_order, without_index}
 use Rattle.view.specs.Steps.{HasAllSeenFramed}
 use Rattle.view.proofs.CallerLemmas.{HaveDistinctIds-permuted, HaveDistinctIds-rising, IsPermutation-in_scene_order}
-use Rattle.live_view.specs.Reached.{is_among, is_text_or_to, is_to_text, AreSurrounded, HaveReached, IsStartedBy, AreStartedBy}
+use Rattle.live_view.specs.inner.Reached.{is_among, is_text_or_to, is_to_text, AreSurrounded, HaveReached, IsStartedBy, AreStartedBy}
 use Rattle.live_view.proofs.Framed.{AreKindsKept}
 
 -- each element of a list is one of others, but for its key

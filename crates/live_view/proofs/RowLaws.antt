@@ -15,9 +15,9 @@ use Rattle.links.specs.Rows.{has_row, same_row, is_for, row_of, rows_of}
 use Rattle.links.specs.Steps.{names_id}
 use Rattle.links.proofs.CallerLemmas.{rows_of-named, list_any-map}
 use Rattle.live_view.specs.inner.Coming.{HasGone}
-use Rattle.live_view.specs.Reached.{is_among}
+use Rattle.live_view.specs.inner.Reached.{is_among}
 use Rattle.view.specs.Kept.{HaveRowsOf}
-use Rattle.live_view.specs.Replacing.{names_as, AreRowsOfAll, HaveReplaced}
+use Rattle.live_view.specs.inner.Replacing.{names_as, AreRowsOfAll, HaveReplaced}
 
 -- ---- truths
 either-both : (a b : Bool) → ((true && b) || (a && b)) ≡ (true && b)

@@ -21,9 +21,9 @@ use Rattle.view.specs.Shown.{is_live, in_scene_order, without_index, placed, sho
 use Rattle.view.specs.Steps.{is_framed, settled_of, settled_but_for_key, HasAllSeenFramed}
 use Rattle.view.proofs.CallerLemmas.{AllPairs-in_order, HaveDistinctIds-permuted, in_order-only, scene_order, IsPermutation-in_scene_order, distinct-settled, unsettled-settled, HaveDistinctIds-rising, placed-distinct, settled-keys, settled-looks, settled-seen}
 use Rattle.live_view.specs.declared.places.Put.{Put}
-use Rattle.live_view.specs.Putting.{puts_of, IsInPlace, all_put}
-use Rattle.live_view.specs.Reached.{is_among, AreStartedBy, IsStartedBy}
-use Rattle.live_view.specs.Replacing.{element_after, AreRepairs, HaveReplaced}
+use Rattle.live_view.specs.inner.Putting.{puts_of, IsInPlace, all_put}
+use Rattle.live_view.specs.inner.Reached.{is_among, AreStartedBy, IsStartedBy}
+use Rattle.live_view.specs.inner.Replacing.{element_after, AreRepairs, HaveReplaced}
 use Rattle.live_view.proofs.ByIds.{same-by_ids}
 use Rattle.live_view.proofs.Framed.{AreKindsKept, framed-alike, kinds-replaced}
 use Rattle.live_view.proofs.Picked.{pairs-alike, picked-in_order}

@@ -15,7 +15,7 @@ use Rattle.links.specs.Rows.{is_for, namer_of}
 use Rattle.links.specs.Names.{is_id, end_names}
 use Rattle.links.specs.Steps.{links_to, names_id}
 use Rattle.links.proofs.CallerLemmas.{list_any-map, list_any-filter}
-use Rattle.live_view.specs.Reached.{is_among, HaveFrames, HaveLinked, HaveNamers, HasNamers, IsStartedBy, AreStartedBy, StaysKind}
+use Rattle.live_view.specs.inner.Reached.{is_among, HaveFrames, HaveLinked, HaveNamers, HasNamers, IsStartedBy, AreStartedBy, StaysKind}
 use Rattle.view.specs.Kept.{HaveRowsOf}
 
 -- ---- from one id

@@ -26,9 +26,9 @@ use Rattle.live_view.specs.Changes.{redrawn_as}
 use Rattle.live_view.specs.inner.Coming.{part_with, rekeyed, HasGone, IsComing, IsGoing}
 use Rattle.live_view.specs.inner.Runs.{stored_keys, AreKeysWith, AreKeysWithout}
 use Rattle.live_view.specs.inner.Unsettled.{put_ids, run_ids, touched_ids, HasNoted, StillHas}
-use Rattle.live_view.specs.Putting.{puts_of, IsInPlace, all_put}
-use Rattle.live_view.specs.Reached.{is_among}
-use Rattle.live_view.specs.Replacing.{AreRepairs, HaveReplaced}
+use Rattle.live_view.specs.inner.Putting.{puts_of, IsInPlace, all_put}
+use Rattle.live_view.specs.inner.Reached.{is_among}
+use Rattle.live_view.specs.inner.Replacing.{AreRepairs, HaveReplaced}
 use Rattle.live_view.proofs.IdLaws.{others-of}
 use Rattle.live_view.proofs.OrderedLaws.{map-insert, map-remove}
 use Rattle.live_view.proofs.PlacedLaws.{shown-distinct}

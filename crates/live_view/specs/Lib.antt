@@ -1,5 +1,2 @@
 pub mod Changes
-pub mod Putting
-pub mod Reached
-pub mod Replacing
 pub mod inner

@@ -10,9 +10,9 @@ ghost use Rattle.elem_store.specs.Updates.{ids_of};
 ghost use Rattle.index_repair.specs.Keyed.{with_index};
 ghost use Rattle.view.specs.Shown.{comes_before, is_live};
 ghost use Rattle.live_view.specs.inner.Coming.{all_stored, rekeyed, AreAround, ArePutBeside, HasGone, IsComing, IsGoing, IsPlaceFor};
-ghost use Rattle.live_view.specs.Reached.{AreIds};
+ghost use Rattle.live_view.specs.inner.Reached.{AreIds};
 ghost use Rattle.view.specs.Kept.{HaveRowsOf};
-ghost use Rattle.live_view.specs.Replacing.{HaveReplaced};
+ghost use Rattle.live_view.specs.inner.Replacing.{HaveReplaced};
 
 use crate::ids::Ids;
 use crate::kept::{Kept, Parts, joined};

@@ -4,7 +4,7 @@ ghost use Rattle.std.specs.Prelude.{◌≡◌, ℕ, List as Items, ◌++◌, tru
 ghost use Rattle.frac_keys.specs.Rising.{are_rising};
 ghost use Rattle.elem_store.specs.Updates.{element_of, ids_of, AreStored, HasTaken};
 ghost use Rattle.live_view.specs.inner.Following.{ArePicked, AreTaken};
-ghost use Rattle.live_view.specs.Replacing.{element_after};
+ghost use Rattle.live_view.specs.inner.Replacing.{element_after};
 
 use crate::sharing::all_shared;
 use board_base::List;

@@ -3,7 +3,7 @@
 ghost use Rattle.std.specs.Prelude.{◌≡◌, ℕ, List as Items, [], ◌||◌, not, bytes_eq, OnOk, IfOk};
 ghost use Rattle.links.specs.Tables.{has_seen};
 ghost use Rattle.live_view.specs.inner.Coming.{AreOthers};
-ghost use Rattle.live_view.specs.Reached.{is_among, AreIds};
+ghost use Rattle.live_view.specs.inner.Reached.{is_among, AreIds};
 
 use json_text::Text;
 use std::alloc::{AllocError, Global};

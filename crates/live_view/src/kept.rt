@@ -7,7 +7,7 @@ ghost use Rattle.view.specs.Kept.{AreOthersAsStored, HaveRowsOf};
 ghost use Rattle.view.specs.Settled.{AreSettled};
 ghost use Rattle.index_repair.specs.Keyed.{HaveRisingKeys};
 ghost use Rattle.view.specs.Shown.{live_elements, shown, bare, IsSceneOrder};
-ghost use Rattle.live_view.specs.Replacing.{IsLiveView};
+ghost use Rattle.live_view.specs.inner.Replacing.{IsLiveView};
 
 use crate::drawing::table_of;
 use crate::sharing::shared_again;
@@ -59,7 +59,7 @@ impl Drop for Kept {
 impl Model for Kept {
     ghost use Rattle.std.specs.Prelude.{List as Items};
     ghost use Rattle.elem.specs.ElementValue.{ElementValue};
-    ghost use Rattle.live_view.specs.Replacing.{IsLiveView};
+    ghost use Rattle.live_view.specs.inner.Replacing.{IsLiveView};
 
     ghost Value = { Items ElementValue };
 

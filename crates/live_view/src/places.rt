@@ -7,7 +7,7 @@ ghost use Rattle.frac_keys.specs.Rising.{are_rising};
 ghost use Rattle.elem_store.specs.Places.{IsAt, IsGapFor};
 ghost use Rattle.elem_store.specs.Updates as updates;
 ghost use Rattle.elem_store.specs.Updates.{ids_of};
-ghost use Rattle.live_view.specs.Putting.{IsWithin, all_put};
+ghost use Rattle.live_view.specs.inner.Putting.{IsWithin, all_put};
 
 use crate::order::scene_order;
 use elem::{Element, SharedElement};

@@ -9,7 +9,7 @@ ghost use Rattle.links.specs.Looks.{kind_at};
 ghost use Rattle.links.specs.Names as names;
 ghost use Rattle.links.specs.Names.{is_id};
 ghost use Rattle.links.specs.Steps as steps;
-ghost use Rattle.live_view.specs.Reached.{is_among, is_text_or_to, is_text_there, is_to_text, AreIds, AreStartedBy, AreSurrounded, HasNamers, HaveFrames, HaveLinked, HaveNamers, HaveReached, StaysKind};
+ghost use Rattle.live_view.specs.inner.Reached.{is_among, is_text_or_to, is_text_there, is_to_text, AreIds, AreStartedBy, AreSurrounded, HasNamers, HaveFrames, HaveLinked, HaveNamers, HaveReached, StaysKind};
 ghost use Rattle.view.specs.Kept.{HaveRowsOf};
 
 use crate::ids::Ids;

@@ -10,11 +10,11 @@ ghost use Rattle.elem_store.specs.Updates.{ids_of};
 ghost use Rattle.view.specs.Settled.{settled};
 ghost use Rattle.elem.specs.Order.{HaveDistinctIds};
 ghost use Rattle.view.specs.Shown.{in_scene_order, is_live, without_index};
-ghost use Rattle.live_view.specs.Putting.{puts_of, IsInPlace};
-ghost use Rattle.live_view.specs.Reached.{is_among, AreIds};
+ghost use Rattle.live_view.specs.inner.Putting.{puts_of, IsInPlace};
+ghost use Rattle.live_view.specs.inner.Reached.{is_among, AreIds};
 ghost use Rattle.view.specs.Kept.{HaveRowsOf};
-ghost use Rattle.live_view.specs.Replacing as replacing;
-ghost use Rattle.live_view.specs.Replacing.{AreRepairs, AreRowsOfAll, HaveReplaced};
+ghost use Rattle.live_view.specs.inner.Replacing as replacing;
+ghost use Rattle.live_view.specs.inner.Replacing.{AreRepairs, AreRowsOfAll, HaveReplaced};
 
 use crate::drawing::settled_of;
 use crate::ids::Ids;

@@ -8,9 +8,9 @@ use Rattle.view.specs.Settled.{settled}
 use Rattle.index_repair.specs.Keyed.{with_index}
 use Rattle.view.specs.Shown.{as_stored, comes_before, in_scene_order, without_index}
 use Rattle.live_view.specs.declared.places.Put.{Put}
-use Rattle.live_view.specs.Putting.{puts_of, IsInPlace}
-use Rattle.live_view.specs.Reached.{is_among, AreStartedBy, AreSurrounded, HasNamers, HaveReached}
-use Rattle.live_view.specs.Replacing.{element_after}
+use Rattle.live_view.specs.inner.Putting.{puts_of, IsInPlace}
+use Rattle.live_view.specs.inner.Reached.{is_among, AreStartedBy, AreSurrounded, HasNamers, HaveReached}
+use Rattle.live_view.specs.inner.Replacing.{element_after}
 
 -- The element of an id is gone, and all others are as they were.
 pub record HasGone (live : List ElementValue) (id : List ℕ)

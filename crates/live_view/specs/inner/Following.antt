@@ -5,8 +5,8 @@ use Rattle.elem.specs.ElementValue.{ElementValue}
 use Rattle.elem_store.specs.Updates.{element_of, ids_of}
 use Rattle.undoing.specs.Carrying.{taken_all}
 use Rattle.view.specs.Shown.{is_live}
-use Rattle.live_view.specs.Reached.{is_among}
-use Rattle.live_view.specs.Replacing.{element_after}
+use Rattle.live_view.specs.inner.Reached.{is_among}
+use Rattle.live_view.specs.inner.Replacing.{element_after}
 
 -- These are the stored elements of the ids, in the order of their ids; each of these is stored.
 pub record ArePicked (stored : List ElementValue) (ids : List (List ℕ))

@@ -7,7 +7,7 @@ use Rattle.std.specs.Ordering.{nat_cmp}
 use Rattle.elem.specs.ElementValue.{ElementValue}
 use Rattle.elem_store.specs.Updates.{ids_of}
 use Rattle.live_view.specs.declared.places.Put.{Put}
-use Rattle.live_view.specs.Reached.{is_among}
+use Rattle.live_view.specs.inner.Reached.{is_among}
 
 -- the ids of the old set are in the new one
 abbrev pub StillHas : BTreeSet (List ℕ) → BTreeSet (List ℕ) → Type 0

@@ -1,5 +1,5 @@
 use Rattle.std.proofs.Common.{◌∷◌, [], ◌∙◌, subst}
-use Rattle.live_view.specs.Reached.{AreStartedBy}
+use Rattle.live_view.specs.inner.Reached.{AreStartedBy}
 use Rattle.live_view.proofs.Stepping.{started-kept}
 use Rattle.live_view.proofs.coming.find_around.Goals as goal
 

@@ -1,7 +1,7 @@
 use Rattle.std.proofs.Common.{◌≡◌, arith, subst}
 use Rattle.elem.specs.ElementValue.{ElementValue}
 use Rattle.elem_store.specs.Updates.{element_of}
-use Rattle.live_view.specs.Replacing.{element_after}
+use Rattle.live_view.specs.inner.Replacing.{element_after}
 use Rattle.live_view.proofs.FollowingLaws.{taken-more}
 use Rattle.live_view.proofs.following.taken_of.Goals as goal
 

@@ -2,7 +2,7 @@ use Rattle.std.proofs.Common.{◌≡◌, ℕ, List, true, take}
 use Rattle.frac_keys.specs.Rising.{are_rising}
 use Rattle.elem_store.specs.Updates.{element_of, ids_of}
 use Rattle.undoing.specs.Carrying.{taken_all}
-use Rattle.live_view.specs.Replacing.{element_after}
+use Rattle.live_view.specs.inner.Replacing.{element_after}
 use Rattle.live_view.proofs.following.taken_of.Given as goal
 
 abbrev pub invariant-loop-e : goal.invariant-loop-e

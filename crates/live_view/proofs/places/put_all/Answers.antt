@@ -1,6 +1,6 @@
 use Rattle.std.proofs.Common.{◌++◌, set, sym, ap, ◌∙◌, append_assoc, append-nil, arith}
 use Rattle.std.proofs.lemmas.List.{nil_from_length}
-use Rattle.live_view.specs.Putting.{all_put}
+use Rattle.live_view.specs.inner.Putting.{all_put}
 use Rattle.live_view.proofs.PuttingLaws.{all_put-push, length-all_put, put-within}
 use Rattle.live_view.proofs.places.put_all.Goals as goal
 

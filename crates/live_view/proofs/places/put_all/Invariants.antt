@@ -1,5 +1,5 @@
 use Rattle.std.proofs.Common.{◌≡◌, ◌++◌, vec_len, vec_capacity}
-use Rattle.live_view.specs.Putting.{all_put}
+use Rattle.live_view.specs.inner.Putting.{all_put}
 use Rattle.live_view.proofs.places.put_all.Given as goal
 
 -- the elements so far are put, and the others are left

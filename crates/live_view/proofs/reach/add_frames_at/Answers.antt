@@ -1,5 +1,5 @@
 use Rattle.std.proofs.Common.{◌≤◌, arith, get_or, length, ap, subst, ◌∙◌, take_all}
-use Rattle.live_view.specs.Reached.{HaveFrames}
+use Rattle.live_view.specs.inner.Reached.{HaveFrames}
 use Rattle.live_view.proofs.Stepping.{frames-more}
 use Rattle.live_view.proofs.reach.add_frames_at.Goals as goal
 

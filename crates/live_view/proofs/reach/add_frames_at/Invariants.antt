@@ -1,5 +1,5 @@
 use Rattle.std.proofs.Common.{◌≡◌, ℕ, List, true, take}
-use Rattle.live_view.specs.Reached.{is_among, AreIds, HaveFrames}
+use Rattle.live_view.specs.inner.Reached.{is_among, AreIds, HaveFrames}
 use Rattle.live_view.proofs.reach.add_frames_at.Given as goal
 
 abbrev pub invariant-loop-id : goal.invariant-loop-id

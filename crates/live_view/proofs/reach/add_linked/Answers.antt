@@ -1,6 +1,6 @@
 use Rattle.std.proofs.Common.{◌||◌, ap, ◌∙◌}
 use Rattle.std.proofs.lemmas.Result.{on_ok_weaker}
-use Rattle.live_view.specs.Reached.{is_among}
+use Rattle.live_view.specs.inner.Reached.{is_among}
 use Rattle.live_view.proofs.reach.add_linked.Goals as goal
 
 pub returns-clause-ids : goal.returns-clause-ids

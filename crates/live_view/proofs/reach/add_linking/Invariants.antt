@@ -1,6 +1,6 @@
 use Rattle.std.proofs.Common.{◌≡◌, ℕ, List, not, ◌||◌, true, take}
 use Rattle.links.specs.Names.{is_text}
-use Rattle.live_view.specs.Reached.{is_among, AreIds}
+use Rattle.live_view.specs.inner.Reached.{is_among, AreIds}
 use Rattle.live_view.proofs.Stepping.{LinkAmong}
 use Rattle.live_view.proofs.reach.add_linking.Given as goal
 

@@ -1,5 +1,5 @@
 use Rattle.std.proofs.Common.{◌≤◌, All, arith, get_or, length, ap, subst, ◌∙◌, take_all}
-use Rattle.live_view.specs.Reached.{StaysKind}
+use Rattle.live_view.specs.inner.Reached.{StaysKind}
 use Rattle.live_view.proofs.Stepping.{kinds-more}
 use Rattle.live_view.proofs.reach.add_namers.Goals as goal
 

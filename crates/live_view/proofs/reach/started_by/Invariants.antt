@@ -1,5 +1,5 @@
 use Rattle.std.proofs.Common.{take}
-use Rattle.live_view.specs.Reached.{AreIds, AreStartedBy}
+use Rattle.live_view.specs.inner.Reached.{AreIds, AreStartedBy}
 use Rattle.live_view.proofs.reach.started_by.Given as goal
 
 abbrev pub invariant-loop-e : goal.invariant-loop-e

@@ -1,5 +1,5 @@
 use Rattle.std.proofs.Common.{take}
-use Rattle.live_view.specs.Reached.{AreIds, HaveLinked}
+use Rattle.live_view.specs.inner.Reached.{AreIds, HaveLinked}
 use Rattle.live_view.proofs.reach.with_linked.Given as goal
 
 abbrev pub invariant-loop-id : goal.invariant-loop-id

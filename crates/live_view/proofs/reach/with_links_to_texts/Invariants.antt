@@ -1,5 +1,5 @@
 use Rattle.std.proofs.Common.{take}
-use Rattle.live_view.specs.Reached.{is_to_text, AreIds, HaveNamers}
+use Rattle.live_view.specs.inner.Reached.{is_to_text, AreIds, HaveNamers}
 use Rattle.live_view.proofs.reach.with_links_to_texts.Given as goal
 
 abbrev pub invariant-loop-id : goal.invariant-loop-id

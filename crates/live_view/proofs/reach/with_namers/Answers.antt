@@ -1,6 +1,6 @@
 use Rattle.std.proofs.Common.{◌≡◌, Bool, true, false, not, ◌||◌, refl, arith, get_or, ap, ◌∙◌}
 use Rattle.links.specs.Names.{is_text}
-use Rattle.live_view.specs.Reached.{is_among, is_text_or_to}
+use Rattle.live_view.specs.inner.Reached.{is_among, is_text_or_to}
 use Rattle.live_view.proofs.Stepping.{namers-more}
 use Rattle.live_view.proofs.reach.with_namers.Goals as goal
 

@@ -1,5 +1,5 @@
 use Rattle.std.proofs.Common.{arith, get_or, ap, ◌∙◌}
-use Rattle.live_view.specs.Reached.{is_text_there}
+use Rattle.live_view.specs.inner.Reached.{is_text_there}
 use Rattle.live_view.proofs.Stepping.{namers-more}
 use Rattle.live_view.proofs.reach.with_texts.Goals as goal
 

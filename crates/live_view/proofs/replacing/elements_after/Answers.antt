@@ -1,5 +1,5 @@
 use Rattle.std.proofs.Common.{get_or, ap, ◌∙◌, arith}
-use Rattle.live_view.specs.Replacing.{element_after}
+use Rattle.live_view.specs.inner.Replacing.{element_after}
 use Rattle.live_view.proofs.Picked.{found-more, none-more}
 use Rattle.live_view.proofs.replacing.elements_after.Goals as goal
 use Rattle.live_view.proofs.replacing.elements_after.Goals.{in-Some+in_ok-try_clone+in_ok-push, in_default}

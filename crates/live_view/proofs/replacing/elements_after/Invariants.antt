@@ -1,5 +1,5 @@
 use Rattle.std.proofs.Common.{◌≡◌, take, filter_map}
-use Rattle.live_view.specs.Replacing.{element_after}
+use Rattle.live_view.specs.inner.Replacing.{element_after}
 use Rattle.live_view.proofs.replacing.elements_after.Given as goal
 
 abbrev pub invariant-loop-id : goal.invariant-loop-id

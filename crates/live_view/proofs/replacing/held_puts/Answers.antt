@@ -1,6 +1,6 @@
 use Rattle.std.proofs.Common.{get_or, sym, ap, ◌∙◌, arith}
 use Rattle.elem.specs.ElementValue.{ElementValue}
-use Rattle.live_view.specs.Putting.{IsInPlace}
+use Rattle.live_view.specs.inner.Putting.{IsInPlace}
 use Rattle.live_view.proofs.PuttingLaws.{puts-push, placed-push, in-place}
 use Rattle.live_view.proofs.replacing.held_puts.Goals as goal
 

@@ -1,5 +1,5 @@
 use Rattle.std.proofs.Common.{◌≡◌, All, take}
-use Rattle.live_view.specs.Putting.{puts_of, IsInPlace}
+use Rattle.live_view.specs.inner.Putting.{puts_of, IsInPlace}
 use Rattle.live_view.proofs.replacing.held_puts.Given as goal
 
 abbrev pub invariant-loop-e : goal.invariant-loop-e

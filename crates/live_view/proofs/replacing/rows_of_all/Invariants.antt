@@ -1,5 +1,5 @@
 use Rattle.std.proofs.Common.{take}
-use Rattle.live_view.specs.Replacing.{AreRowsOfAll}
+use Rattle.live_view.specs.inner.Replacing.{AreRowsOfAll}
 use Rattle.live_view.proofs.replacing.rows_of_all.Given as goal
 
 abbrev pub invariant-loop-e : goal.invariant-loop-e

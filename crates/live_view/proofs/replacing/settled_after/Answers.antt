@@ -1,6 +1,6 @@
 use Rattle.std.proofs.Common.{filter_map}
 use Rattle.view.proofs.CallerLemmas.{HaveDistinctIds-permuted, IsPermutation-in_scene_order}
-use Rattle.live_view.specs.Replacing.{element_after}
+use Rattle.live_view.specs.inner.Replacing.{element_after}
 use Rattle.live_view.proofs.Picked.{distinct-after}
 use Rattle.live_view.proofs.replacing.settled_after.Goals as goal
 

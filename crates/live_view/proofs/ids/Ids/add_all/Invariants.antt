@@ -1,5 +1,5 @@
 use Rattle.std.proofs.Common.{◌≡◌, ◌||◌, ℕ, List, take}
-use Rattle.live_view.specs.Reached.{is_among, AreIds}
+use Rattle.live_view.specs.inner.Reached.{is_among, AreIds}
 use Rattle.live_view.proofs.ids.Ids.add_all.Given as goal
 
 abbrev pub invariant-loop-id : goal.invariant-loop-id

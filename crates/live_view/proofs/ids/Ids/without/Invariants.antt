@@ -1,5 +1,5 @@
 use Rattle.std.proofs.Common.{◌≡◌, ◌&&◌, not, ℕ, List, take, bytes_eq}
-use Rattle.live_view.specs.Reached.{is_among, AreIds}
+use Rattle.live_view.specs.inner.Reached.{is_among, AreIds}
 use Rattle.live_view.proofs.ids.Ids.without.Given as goal
 
 abbrev pub invariant-loop-other : goal.invariant-loop-other

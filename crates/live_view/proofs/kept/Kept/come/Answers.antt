@@ -6,9 +6,9 @@ use Rattle.elem_store.proofs.CallerLemmas.{element-gap}
 use Rattle.links.specs.Rows.{has_row, rows_of}
 use Rattle.view.specs.Shown.{as_stored, IsView}
 use Rattle.live_view.specs.inner.Coming.{all_stored, rekeyed, IsComing, IsPlaceFor}
-use Rattle.live_view.specs.Putting.{all_put}
+use Rattle.live_view.specs.inner.Putting.{all_put}
 use Rattle.view.specs.Kept.{AreOthersAsStored, HaveRowsOf}
-use Rattle.live_view.specs.Replacing.{HaveReplaced}
+use Rattle.live_view.specs.inner.Replacing.{HaveReplaced}
 use Rattle.live_view.specs.inner.Unsettled.{touched_ids, HasNoted}
 use Rattle.live_view.specs.inner.Runs.{stored_keys, AreKeysWith}
 use Rattle.live_view.proofs.ComingLaws.{HaveReplaced-with, IsView-with, all-within, fits-with'}

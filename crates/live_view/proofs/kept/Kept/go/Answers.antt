@@ -6,7 +6,7 @@ use Rattle.elem_store.proofs.CallerLemmas.{element-at}
 use Rattle.links.specs.Rows.{has_row, rows_of}
 use Rattle.view.specs.Shown.{IsView}
 use Rattle.live_view.specs.inner.Coming.{rekeyed, HasGone, IsGoing}
-use Rattle.live_view.specs.Putting.{all_put}
+use Rattle.live_view.specs.inner.Putting.{all_put}
 use Rattle.view.specs.Kept.{AreOthersAsStored, HaveRowsOf}
 use Rattle.live_view.specs.inner.Unsettled.{touched_ids, HasNoted}
 use Rattle.live_view.proofs.ComingLaws.{HasGone-without, IsView-without, fits-without', all-within, gone-already}

@@ -1,8 +1,8 @@
 use Rattle.std.proofs.Common.{not, ◌&&◌, ◌||◌, ◌++◌, ap, ap₂, ◌∙◌, subst}
 use Rattle.elem_store.specs.Updates.{ids_of}
 use Rattle.links.specs.Rows.{has_row}
-use Rattle.live_view.specs.Putting.{all_put}
-use Rattle.live_view.specs.Replacing.{HaveReplaced}
+use Rattle.live_view.specs.inner.Putting.{all_put}
+use Rattle.live_view.specs.inner.Replacing.{HaveReplaced}
 use Rattle.live_view.specs.inner.Unsettled.{HasNoted}
 use Rattle.live_view.proofs.ComingLaws.{all-within}
 use Rattle.live_view.proofs.UnsettledLaws.{others-kept}

@@ -12,8 +12,8 @@ use Rattle.links.specs.Steps.{names_id}
 use Rattle.view.specs.Settled.{settled}
 use Rattle.view.specs.Shown.{in_scene_order, without_index, IsView}
 use Rattle.live_view.specs.declared.places.Put.{Put}
-use Rattle.live_view.specs.Putting.{puts_of, IsInPlace}
-use Rattle.live_view.specs.Reached.{is_among, AreStartedBy, AreSurrounded, HaveReached, StaysKind}
+use Rattle.live_view.specs.inner.Putting.{puts_of, IsInPlace}
+use Rattle.live_view.specs.inner.Reached.{is_among, AreStartedBy, AreSurrounded, HaveReached, StaysKind}
 use Rattle.view.specs.Kept.{AreOthersAsStored, HaveRowsOf}
 
 -- the element of an id after new ones took the places of those of their ids
