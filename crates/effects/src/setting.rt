@@ -55,9 +55,10 @@ pub(crate) fn with_member(
     let value = given_value(alloc, name, value)?;
     let mut members = e.rest.to_list()?.into_vec();
     put_value(&mut members, name, value)?;
-    let mut new = e.try_clone()?;
-    new.rest = SharedMembers::new(alloc, List::from_vec(members))?;
-    Ok(new)
+    let rest = SharedMembers::new(alloc, List::from_vec(members))?;
+    let mut changed = e.try_clone()?;
+    changed.rest = rest;
+    Ok(changed)
 }
 
 /// The value that a member gets: the default for null, where there is one.
