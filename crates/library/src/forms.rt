@@ -1,13 +1,17 @@
 //! The forms of an item's members.
 
-ghost use Rattle.std.specs.Prelude.{◌↔◌, IfOk, IsTrue};
+ghost use Rattle.std.specs.Prelude.{◌≡◌, ◌↔◌, Err, IfOk, IsTrue};
 ghost use Rattle.json_text.specs.Members.{pairs};
 ghost use Rattle.scene_json.specs.Named.{value_at};
 ghost use Rattle.elem.specs.Forms.{IsId, IsNull, IsTextOrNull};
 ghost use Rattle.library.specs.inner.Found.{IsFoundAs};
+ghost use Rattle.elem_read.specs.Faults.{Lacks};
+ghost use Rattle.library.specs.Found.{IsFoundAs};
 ghost use Rattle.library.specs.Reading.{IsArray, IsStatus, IsTime};
+ghost use Rattle.library.specs.declared.fault.ItemFault.{ItemFault};
 
-use board_base::List;
+use crate::fault::ItemFault;
+use board_base::{List, Stop};
 use json_text::{Member, Raw, Text};
 use scene_json::{has_value, is_null, items, shaped, text_named, value_named, whole_named};
 use std::alloc::{AllocError, Global};
@@ -49,21 +53,23 @@ pub(crate) fn time_named(members: &List<Member>, name: &str) -> Option<u64>
     whole_named(members, name)
 }
 
-/// The text that the member of this name is, or none where it is missing; the outer `None` where it
-/// is of another form.
+/// The text that the member of this name is, or none where it is missing.
 pub(crate) fn text_or_null_named(
     alloc: Global,
     members: &List<Member>,
     name: &str,
-) -> Result<Option<Option<Text>>, AllocError>
-    ensures { IfOk result (IsFoundAs (IsTextOrNull (value_at name.now (pairs members.now)))) }
+    fault: ItemFault,
+) -> Result<Option<Text>, Stop<ItemFault>>
+    ensures read { IfOk result (IsTextOrNull (value_at name.now (pairs members.now))) }
+    ensures fault { (told : ItemFault) → result ≡ Err (Stop.Fault told)
+        → (told ≡ fault) × Lacks (IsTextOrNull (value_at name.now (pairs members.now))) }
 {
     if is_missing(members, name) {
-        return Ok(Some(None));
+        return Ok(None);
     }
     match text_named(alloc, members, name)? {
-        Some(text) => Ok(Some(Some(text))),
-        None => Ok(None),
+        Some(text) => Ok(Some(text)),
+        None => Err(Stop::Fault(fault)),
     }
 }
 

@@ -93,9 +93,7 @@ fn read_members(alloc: Global, members: &List<Member>) -> Result<Item, Stop<Item
     let Some(created) = time_named(members, "created") else {
         return Err(Stop::Fault(ItemFault::Created));
     };
-    let Some(name) = text_or_null_named(alloc, members, "name")? else {
-        return Err(Stop::Fault(ItemFault::Name));
-    };
+    let name = text_or_null_named(alloc, members, "name", ItemFault::Name)?;
     let Some(values) = array_named(alloc, members, "elements")? else {
         return Err(Stop::Fault(ItemFault::Elements));
     };

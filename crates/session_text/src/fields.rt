@@ -1,10 +1,9 @@
 //! The members of a session's texts, each of one form.
 
-ghost use Rattle.std.specs.Prelude.{◌≡◌, ◌↔◌, Some, IfOk, IsTrue, MatchOption, codes, bytes_eq, map};
-ghost use Rattle.std.specs.List.{IsDistinct};
+ghost use Rattle.std.specs.Prelude.{◌≡◌, ◌↔◌, Some, IfOk, IsTrue, MatchOption};
 ghost use Rattle.json_text.specs.Members.{pairs};
 ghost use Rattle.elem_read.specs.Faults.{Lacks};
-ghost use Rattle.elem.specs.Forms.{find_in, IsText, IsWholeNumber, IsObject, AreOthers};
+ghost use Rattle.elem.specs.Forms.{IsText, IsWholeNumber, IsObject};
 ghost use Rattle.session_text.specs.Forms.{IsFrom, IsThere, IsArray, IsShallow, AreIds, IsCapture, IsSide, IsSpot, IsRest};
 ghost use Rattle.session_text.specs.Reads.{MemberOf, IsReadResult};
 ghost use Rattle.session_text.specs.declared.name.MemberName.TheVariants as names;
@@ -13,15 +12,13 @@ use crate::fault::TextFault;
 use crate::name::MemberName;
 use board_base::{List, Stop};
 use board_commands::{Capture, Side, Spot};
+use elem_read::further_members;
 use json_text::{Member, Raw, Text, first_occurrences};
 use scene_json::{
     has_value, items, members, nests_at_most, shaped, text_named, texts_of, value_named,
     whole_named,
 };
 use std::alloc::{AllocError, Global};
-
-/// The member in which a binding names its target.
-const TARGET: &str = "elementId";
 
 /// How many brackets may be open at once in the value or the binding of a command.
 const DEEPEST: u64 = 100;
@@ -220,18 +217,7 @@ fn rest_in(alloc: Global, value: &Raw) -> Result<Option<List<Member>>, AllocErro
         return Ok(None);
     }
     match object(alloc, value)? {
-        Some(found) => Ok(Some(further(found)?)),
+        Some(found) => Ok(Some(further_members(found)?)),
         None => Ok(None),
     }
-}
-
-/// The members but the target, in the order of the bytes of their names.
-fn further(members: List<Member>) -> Result<List<Member>, AllocError>
-    requires { IsDistinct bytes_eq (map (λ member. member.name) members) }
-    ensures { IfOk result (AreOthers (bytes_eq (codes "elementId")) (find_in (pairs members))) }
-{
-    let mut rest = members.into_vec();
-    rest.retain(|member| TARGET.as_bytes() != member.name.as_bytes());
-    rest.sort_by(|a, b| a.name.cmp(&b.name))?;
-    Ok(List::from_vec(rest))
 }
