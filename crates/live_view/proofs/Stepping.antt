@@ -26,7 +26,7 @@ one_only id x h = (bytes_eq-Decides x id).0 (by (bytes_eq x id) h) where
   by false h = h
 
 -- what links to an id names it, and so does what names it as its frame
-pub links-named : (id : List ℕ) (e : ElementValue) → links_to id e ≡ true → names_id id e ≡ true
+links-named : (id : List ℕ) (e : ElementValue) → links_to id e ≡ true → names_id id e ≡ true
 links-named id e h =
     elim (or_cases (is_id id e.container) (end_names id e.start_binding || end_names id e.end_binding) h) [
       | inl is ↦ or_left (is_id id e.container || is_id id e.frame) _

@@ -173,7 +173,7 @@ fn comes_ahead(
     place == shown.len() || scene_order(e, stored_of(live, shown[place].get())).is_lt()
 }
 
-/// What is shown anew where an element comes, if all of it is found.
+/// What is shown anew where an element comes, if all of it is found and it isn't much.
 fn draw_coming(
     alloc: Global,
     live: &Vec<SharedElement>,
@@ -186,10 +186,9 @@ fn draw_coming(
     ensures { IfOk result (λ found. IfSome found
         (λ c. IsComing live.now.items shown.now.items e.now c.own c.puts.items)) }
 {
-    let around = find_around(alloc, live, table, e)?;
-    if is_much(&around.near, live) {
+    let Some(around) = find_around(alloc, live, table, e)? else {
         return Ok(None);
-    }
+    };
     let news = alone(alloc, e)?;
     let part = settled_after(alloc, live, &news, &around.wide.list)?;
     let Some(own) = element_in(&part, e.id())? else {
@@ -202,7 +201,7 @@ fn draw_coming(
     }
 }
 
-/// What is shown anew where an element goes, if all of it is found.
+/// What is shown anew where an element goes, if all of it is found and it isn't much.
 fn draw_going(
     alloc: Global,
     live: &Vec<SharedElement>,
@@ -215,35 +214,39 @@ fn draw_going(
     ensures { IfOk result
         (λ found. IfSome found (λ puts. IsGoing live.now.items shown.now.items e.now puts.items)) }
 {
-    let around = find_around(alloc, live, table, e)?;
-    if is_much(&around.near, live) {
+    let Some(around) = find_around(alloc, live, table, e)? else {
         return Ok(None);
-    }
+    };
     let others = around.wide.without(alloc, e.id())?;
     let part = settled_after(alloc, live, &Vec::new(alloc), &others.list)?;
     puts_beside(alloc, live, shown, part, &around.near, e.id())
 }
 
-/// What is near an element and all that name it, and what surrounds that.
+/// What is near an element and all that name it, and what surrounds that, unless it is much.
 fn find_around(
     alloc: Global,
     live: &Vec<SharedElement>,
     table: &LinkTable,
     e: &SharedElement,
-) -> Result<Around, AllocError>
+) -> Result<Option<Around>, AllocError>
     requires ordered { are_rising (ids_of live.now.items) ≡ true }
     requires table { HaveRowsOf live.now.items table.now.rows }
-    ensures around { IfOk result
-        (λ a. AreAround live.now.items e.now a.near.list.items a.wide.list.items) }
-    ensures near { IfOk result (λ a. AreIds a.near.list.items a.near.seen) }
-    ensures wide { IfOk result (λ a. AreIds a.wide.list.items a.wide.seen) }
+    ensures around { IfOk result (λ found. IfSome found
+        (λ a. AreAround live.now.items e.now a.near.list.items a.wide.list.items)) }
+    ensures near { IfOk result
+        (λ found. IfSome found (λ a. AreIds a.near.list.items a.near.seen)) }
+    ensures wide { IfOk result
+        (λ found. IfSome found (λ a. AreIds a.wide.list.items a.wide.seen)) }
 {
     let news = alone(alloc, e)?;
     let mut start = started_by(alloc, &news)?;
     add_all_namers(&mut start, e.id(), live, table)?;
     let near = reached(alloc, &start, live, table)?;
+    if is_much(&near, live) {
+        return Ok(None);
+    }
     let wide = surrounded(alloc, &near, &news, live, table)?;
-    Ok(Around { near, wide })
+    Ok(Some(Around { near, wide }))
 }
 
 /// A list of one element.

@@ -130,7 +130,7 @@ pub(crate) fn rows_of_all(
 }
 
 /// What is near the new elements, and near all that name one whose kind is new, at the places where
-/// it is shown, if these are found.
+/// it is shown, if these are found and it isn't much.
 fn shown_puts(
     alloc: Global,
     live: &Vec<SharedElement>,

@@ -11,9 +11,9 @@ returns c =
     IfOk-weaker c.puts_beside.result _ _
     (λ found is. IfSome-weaker _ _
     (λ puts beside. record {
-      near = c.in_ok-around.around.near.list.items;
-      wide = c.in_ok-around.around.wide.list.items;
-      around = c.in_ok-around.ensures.around;
+      near = c.in-Some.around.near.list.items;
+      wide = c.in-Some.around.wide.list.items;
+      around = rw c.in-Some.is at c.in_ok-around.ensures.around;
       others = c.in_ok-others.others.list.items;
       are = rw c.id.ensures at c.in_ok-others.ensures.others;
       beside = rw (part, c.id-2.ensures) at beside;
