@@ -6,6 +6,7 @@ use Rattle.frac_keys.specs.Rising.{are_rising}
 use Rattle.elem.specs.ElementValue.{ElementValue}
 use Rattle.elem.specs.Order.{unstamped}
 use Rattle.elem.specs.Said.{AreElements}
+use Rattle.elem.specs.Stamp.{stamped}
 use Rattle.elem_store.specs.Updates.{element_of, ids_of}
 use Rattle.delta.specs.Pairs.{Pair}
 use Rattle.delta.specs.Placed.{item_of}
@@ -17,7 +18,7 @@ use Rattle.undoing.specs.Carrying.{taken_all}
 use Rattle.undoing.specs.Differing.{differ}
 use Rattle.undoing.specs.Entries.{IsEntry, AreEntries, IsGiven}
 use Rattle.undoing.specs.Leaving.{Leaves, LeavesOthers, StepLeavesOthers}
-use Rattle.undoing.specs.Steps.{Turn, stamped, given, step}
+use Rattle.undoing.specs.Steps.{Turn, given, step}
 use Rattle.undoing.specs.Undoing.{undone}
 use Rattle.undoing.proofs.CallerLemmas.{differ-false, found-is, undone-leaves, given-each, given-all, given-rise, given-taken, step-turn, sought-entries, undone-stamp, undone-element, restamped}
 use Rattle.replica.specs.State.{State, captured, entries, turn_on, after_turn_of, after_turn}
