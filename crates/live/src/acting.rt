@@ -1,7 +1,6 @@
 //! A replica acts, and the text that tells what came of it is made before anything is changed.
 
-ghost use Rattle.std.specs.Prelude.{◌≡◌, ◌≤◌, length, IfOk, OnOk, OnErr};
-ghost use Rattle.elem.specs.Facts.{greatest_whole};
+ghost use Rattle.std.specs.Prelude.{◌≡◌, length, IfOk, OnOk, OnErr};
 ghost use Rattle.board_commands.specs.Limits.{IsWithinLimits};
 ghost use Rattle.reconcile.specs.Ids.{free_elements};
 ghost use Rattle.replica.specs.Standing.{ReplicaStandsFor};
@@ -17,7 +16,7 @@ use board_base::{Bytes, Stop};
 use board_commands::{Capture, Command};
 use delta::VersionFull;
 use effects::Refusal;
-use elem::Element;
+use elem::{Element, Stamp};
 use history::{Direction, Step};
 use replica::{PlannedStep, Replica};
 use room_msg::update_text;
@@ -29,18 +28,15 @@ pub(crate) fn change(
     replica: &mut Replica,
     command: &Command,
     capture: Capture,
-    time: u64,
-    nonce: u64,
+    stamp: Stamp,
 ) -> Result<Bytes, AllocError>
-    requires time { time ≤ greatest_whole }
-    requires nonce { nonce ≤ greatest_whole }
     requires limits { IsWithinLimits command.now }
     ensures acted { IfOk result (λ text. (s : State) → ReplicaStandsFor replica.old s
-        → IsActed (living.command_text (outcome_on command.now time nonce s))
-        (change_on command.now capture time nonce s) text replica.new) }
+        → IsActed (living.command_text (outcome_on command.now stamp.time stamp.nonce s))
+        (change_on command.now capture stamp.time stamp.nonce s) text replica.new) }
     ensures err { OnErr result (replica.new ≡ replica.old) }
 {
-    match replica.given(command, time, nonce) {
+    match replica.given(command, stamp) {
         Ok(given) => {
             let text = update_text(alloc, &given)?;
             replica.store_given(capture, &given)?;
@@ -56,17 +52,14 @@ pub(crate) fn turn(
     alloc: Global,
     replica: &mut Replica,
     direction: Direction,
-    time: u64,
-    nonce: u64,
+    stamp: Stamp,
 ) -> Result<Bytes, AllocError>
-    requires time { time ≤ greatest_whole }
-    requires nonce { nonce ≤ greatest_whole }
     ensures acted { IfOk result (λ text. (s : State) → ReplicaStandsFor replica.old s
-        → IsActed (living.step_text (turn_on direction time nonce s))
-        (turn_by direction time nonce s) text replica.new) }
+        → IsActed (living.step_text (turn_on direction stamp.time stamp.nonce s))
+        (turn_by direction stamp.time stamp.nonce s) text replica.new) }
     ensures err { OnErr result (replica.new ≡ replica.old) }
 {
-    match replica.plan(direction, time, nonce) {
+    match replica.plan(direction, stamp) {
         Ok(plan) => {
             let text = put(alloc, replica, plan)?;
             Ok(text)
@@ -82,7 +75,8 @@ fn put(alloc: Global, replica: &mut Replica, plan: PlannedStep) -> Result<Bytes,
         plan }
     ensures text { IfOk result (λ text. text ≡ acting.done_text plan.step) }
     ensures after { OnOk result ((s : State) → ReplicaStandsFor replica.old s
-        → ReplicaStandsFor replica.new (after_turn plan.direction plan.time plan.nonce s)) }
+        → ReplicaStandsFor replica.new (after_turn plan.direction plan.stamp.time plan.stamp.nonce
+        s)) }
     ensures err { OnErr result (replica.new ≡ replica.old) }
 {
     let text = step_text(alloc, &plan.step)?;

@@ -19,7 +19,7 @@ use crate::{acting, texts};
 use board_base::{Bytes, List, Stop};
 use board_commands::{Capture, Command};
 use drawn_words::{draw_word, generator_of};
-use elem::Element;
+use elem::{Element, Stamp};
 use history::Direction;
 use json_text::Text;
 use rand_pcg::Pcg32;
@@ -136,7 +136,8 @@ impl Life {
         ensures err { OnErr result (self.new ≡ self.old) }
     {
         let (nonce, generator) = drawn(&self.generator, self.number)?;
-        let text = acting::change(alloc, &mut self.replica, command, capture, time, nonce)?;
+        let stamp = Stamp { time, nonce };
+        let text = acting::change(alloc, &mut self.replica, command, capture, stamp)?;
         self.generator = generator;
         Ok(text)
     }
@@ -149,7 +150,8 @@ impl Life {
         ensures err { OnErr result (self.new ≡ self.old) }
     {
         let (nonce, generator) = drawn(&self.generator, self.number)?;
-        let text = acting::turn(alloc, &mut self.replica, direction, time, nonce)?;
+        let stamp = Stamp { time, nonce };
+        let text = acting::turn(alloc, &mut self.replica, direction, stamp)?;
         self.generator = generator;
         Ok(text)
     }

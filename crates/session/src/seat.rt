@@ -1,7 +1,6 @@
 //! A replica in a session.
 
-ghost use Rattle.std.specs.Prelude.{◌≡◌, ◌+◌, ◌≤◌, IfOk, OnOk};
-ghost use Rattle.elem.specs.Facts.{greatest_whole};
+ghost use Rattle.std.specs.Prelude.{◌≡◌, ◌+◌, IfOk, OnOk};
 ghost use Rattle.board_commands.specs.Limits.{IsWithinLimits};
 ghost use Rattle.session.specs.inner.Standing.{IsActed, SeatStandsFor};
 ghost use Rattle.session.specs.Worlds as worlds;
@@ -13,7 +12,7 @@ use board_base::Stop;
 use board_commands::{Capture, Command};
 use delta::VersionFull;
 use effects::Refusal;
-use elem::Element;
+use elem::{Element, Stamp};
 use history::{Direction, Step};
 use json_text::Text;
 use replica::Replica;
@@ -42,16 +41,14 @@ impl Seat {
         &mut self,
         command: &Command,
         capture: Capture,
-        time: u64,
-        nonce: u64,
+        stamp: Stamp,
     ) -> Result<Outcome, AllocError>
-        requires time { time ≤ greatest_whole }
-        requires nonce { nonce ≤ greatest_whole }
         requires limits { IsWithinLimits command.now }
         ensures { IfOk result (λ outcome. (s : worlds.Seat) → SeatStandsFor self.old s
-            → IsActed (change_on command.now capture time nonce s.state) s outcome self.new) }
+            → IsActed (change_on command.now capture stamp.time stamp.nonce s.state) s outcome
+            self.new) }
     {
-        match self.replica.change(command, capture, time, nonce) {
+        match self.replica.change(command, capture, stamp) {
             Ok(given) => {
                 self.count(given.as_slice().len() as u64)?;
                 Ok(Outcome::Given(given))
@@ -62,18 +59,11 @@ impl Seat {
     }
 
     /// Undoes, or redoes, a step.
-    pub(crate) fn turn(
-        &mut self,
-        direction: Direction,
-        time: u64,
-        nonce: u64,
-    ) -> Result<Outcome, AllocError>
-        requires time { time ≤ greatest_whole }
-        requires nonce { nonce ≤ greatest_whole }
+    pub(crate) fn turn(&mut self, direction: Direction, stamp: Stamp) -> Result<Outcome, AllocError>
         ensures { IfOk result (λ outcome. (s : worlds.Seat) → SeatStandsFor self.old s
-            → IsActed (turn_by direction time nonce s.state) s outcome self.new) }
+            → IsActed (turn_by direction stamp.time stamp.nonce s.state) s outcome self.new) }
     {
-        match self.replica.turn(direction, time, nonce) {
+        match self.replica.turn(direction, stamp) {
             Ok(Step::Done(given)) => {
                 self.count(given.as_slice().len() as u64)?;
                 Ok(Outcome::Given(given))

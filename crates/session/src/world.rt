@@ -15,7 +15,7 @@ use crate::seat::Seat;
 use board_base::List;
 use board_commands::{Capture, Command};
 use drawn_words::{draw_word, generator_of};
-use elem::Element;
+use elem::{Element, Stamp};
 use history::Direction;
 use json_text::Text;
 use rand_pcg::Pcg32;
@@ -92,7 +92,7 @@ impl World {
     {
         let nonce = draw(&mut self.generator, at);
         let seat = &mut self.seats[at as usize];
-        let outcome = seat.change(command, capture, time, nonce)?;
+        let outcome = seat.change(command, capture, Stamp { time, nonce })?;
         self.note(outcome)?;
         Ok(())
     }
@@ -107,7 +107,7 @@ impl World {
     {
         let nonce = draw(&mut self.generator, at);
         let seat = &mut self.seats[at as usize];
-        let outcome = seat.turn(direction, time, nonce)?;
+        let outcome = seat.turn(direction, Stamp { time, nonce })?;
         self.note(outcome)?;
         Ok(())
     }

@@ -6,6 +6,7 @@ use Rattle.frac_keys.specs.Rising.{are_rising}
 use Rattle.elem.specs.ElementValue.{ElementValue}
 use Rattle.elem.specs.Order.{unstamped}
 use Rattle.elem.specs.Said.{AreElements}
+use Rattle.elem.specs.Stamp.{stamped}
 use Rattle.elem_store.specs.Updates.{element_of, ids_of}
 use Rattle.delta.specs.Pairs.{Pair}
 use Rattle.delta.specs.Placed.{item_of}

@@ -8,7 +8,8 @@ use Rattle.live.proofs.acting.change.Goals as goal
 
 pub returns-in_ok-store_given-in-Ok-clause-acted : goal.returns-in_ok-store_given-in-Ok-clause-acted
 returns-in_ok-store_given-in-Ok-clause-acted c = λ s stands.
-    change-made c.args.command.now c.args.capture c.args.time c.args.nonce c.args.replica.now s stands c.in-Ok.given
+    change-made c.args.command.now c.args.capture c.args.stamp.time c.args.stamp.nonce c.args.replica.now s stands
+    c.in-Ok.given
     c.in_ok-text-in-Ok.text c.store_given.new.self c.in-Ok.ensures.given c.in_ok-text-in-Ok.ensures
     (c.in_ok-store_given-in-Ok.ensures.after s stands)
 
@@ -17,9 +18,10 @@ returns-in-Err-Fault-clause-acted c =
     let old = c.args.replica.now in
     let is =
     subst (λ stop. OnFault stop (λ refusal. outcome old.stored (shown (live_elements old.stored)) c.args.command.now
-    c.args.time c.args.nonce ≡ Err refusal)) c.in-Err-Fault.field-0-is c.in-Err-Fault.ensures.refused in
+    c.args.stamp.time c.args.stamp.nonce ≡ Err refusal)) c.in-Err-Fault.field-0-is c.in-Err-Fault.ensures.refused in
     IfOk-weaker c.refusal_text.result _ _
     (λ text told s stands.
-    change-refused c.args.command.now c.args.capture c.args.time c.args.nonce old s stands c.in-Err-Fault.refusal text
+    change-refused c.args.command.now c.args.capture c.args.stamp.time c.args.stamp.nonce old s stands
+    c.in-Err-Fault.refusal text
     old is (told ∙ ap (λ r. refusal_text (Some r)) c.in-Err-Fault.refusal-is) refl)
     c.refusal_text.ensures
