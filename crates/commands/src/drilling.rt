@@ -15,8 +15,9 @@ ghost use Rattle.commands.specs.declared.status.Fault.{Fault};
 
 use crate::status::Fault;
 use crate::words::Drill;
+use crate::writing::written;
 use board_base::{Bytes, List, Piece, Stop};
-use board_ends::{Failed, Sink, write_all};
+use board_ends::Sink;
 use session::{ReplicaReport, Report, replay};
 use session_text::{Session, read_session};
 use std::alloc::{AllocError, Global};
@@ -34,14 +35,8 @@ pub(crate) fn drill<K: Sink>(alloc: Global, drill: Drill, output: &mut K) -> Res
     ensures only { IfErr result (λ fault. (fault ≡ Fault.Memory) ⊎ (fault ≡ Fault.Write)) }
     ensures output_kept { result ≡ Err Fault.Memory → output.new ≡ output.old }
 {
-    let text = match told(alloc, drill) {
-        Ok(text) => text,
-        Err(AllocError) => return Err(Fault::Memory),
-    };
-    match write_all(output, text.as_slice()) {
-        Ok(()) => Ok(()),
-        Err(Failed) => Err(Fault::Write),
-    }
+    let text = told(alloc, drill)?;
+    written(output, &text)
 }
 
 /// The text that a drill tells.

@@ -20,6 +20,7 @@ mod status;
 mod sure;
 mod taking;
 mod words;
+mod writing;
 
 pub use running::board;
 pub use status::{Fault, InputRefusal, Status};

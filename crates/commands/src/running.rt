@@ -32,8 +32,10 @@ use crate::serving::{noted_end, serve};
 use crate::status::{Fault, Status};
 use crate::words;
 use crate::words::{ProgramCommand, Drill, Keeping, Request, Service};
+use crate::words::{Command, Drill, Keeping, Request, Service};
+use crate::writing::written;
 use board_base::Bytes;
-use board_ends::{Failed, Journal, Links, Sink, Source, write_all};
+use board_ends::{Journal, Links, Sink, Source};
 use std::alloc::{AllocError, Global};
 
 /// Does what the words ask for, over this input, output and links. On every answer but `Done` and
@@ -405,8 +407,5 @@ fn run<S: Source, K: Sink>(
     ensures output_kept { IfErr result (λ fault. fault ≢ Fault.Write → output.new ≡ output.old) }
 {
     let text = answer(alloc, command, input)?;
-    match write_all(output, text.as_slice()) {
-        Ok(()) => Ok(()),
-        Err(Failed) => Err(Fault::Write),
-    }
+    written(output, &text)
 }

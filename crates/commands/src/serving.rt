@@ -19,8 +19,9 @@ use crate::answer::ended;
 use crate::input::some_board;
 use crate::status::{Fault, InputRefusal, Status};
 use crate::words::Service;
+use crate::writing::written;
 use board_base::{Bytes, Piece};
-use board_ends::{Failed, LinkError, Links, Sink, Source, write_all, write_pieces};
+use board_ends::{LinkError, Links, Sink, Source, write_pieces};
 use elem_store::Store;
 use room_core::{Room, ServeEnd, serve_room};
 use scene_file::{Head, Layout, elements_text};
@@ -51,10 +52,8 @@ pub(crate) fn serve<S: Source, K: Sink, L: Links>(
 {
     let (head, store) = some_board(alloc, input)?;
     let (end, text) = hold(alloc, service, &head, store, links)?;
-    match write_all(output, text.as_slice()) {
-        Ok(()) => Ok(end),
-        Err(Failed) => Err(Fault::Write),
-    }
+    written(output, &text)?;
+    Ok(end)
 }
 
 /// Serves a room that begins with this store to its end, and gives the text of its scene then.
