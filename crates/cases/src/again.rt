@@ -6,16 +6,14 @@ use crate::keep::push_keyed;
 use crate::told::push_member_of;
 use board_base::{List, Stop};
 use board_commands::{Capture, Command, Spot};
-use elem::Element;
+use elem::{Element, Stamp};
 use json_text::{Raw, Text};
 use replica::{Direction, Replica};
 use scene_json::{members, push_comma, push_whole, shaped, value_named};
 use std::alloc::{AllocError, Global};
 
-/// The time and the nonce of each change.
-const TIME: u64 = 9;
-
-const NONCE: u64 = 8;
+/// What each change stamps with.
+const STAMP: Stamp = Stamp { time: 9, nonce: 8 };
 
 /// What is done on a replica.
 enum Act {
@@ -139,7 +137,7 @@ fn create(replica: &mut Replica, e: &Element, capture: Capture) -> Result<Option
         element: e.try_clone()?,
         spot: Spot::Top,
     };
-    match replica.change(&command, capture, TIME, NONCE) {
+    match replica.change(&command, capture, STAMP) {
         Ok(_given) => Ok(Some(())),
         Err(Stop::Fault(_)) => Ok(None),
         Err(Stop::Memory) => Err(AllocError),
@@ -148,9 +146,9 @@ fn create(replica: &mut Replica, e: &Element, capture: Capture) -> Result<Option
 
 /// Undoes an entry, or an undo, if that isn't refused.
 fn turn(replica: &mut Replica, direction: Direction) -> Result<Option<()>, AllocError> {
-    let first = replica.turn(direction, TIME, NONCE);
+    let first = replica.turn(direction, STAMP);
     let step = match first {
-        Err(Stop::Memory) => replica.turn(direction, TIME, NONCE),
+        Err(Stop::Memory) => replica.turn(direction, STAMP),
         other => other,
     };
     match step {

@@ -10,7 +10,7 @@ use crate::told::push_truth;
 use board_base::{List, Stop};
 use board_commands::{Capture, Command, Side, Spot};
 use drawn_words::generator_of;
-use elem::Element;
+use elem::{Element, Stamp};
 use json_text::{Raw, Text};
 use rand_pcg::Pcg32;
 use replica::Replica;
@@ -18,9 +18,7 @@ use scene_json::{members, shaped};
 use std::alloc::{AllocError, Global};
 
 /// What each command stamps with.
-const TIME: u64 = 5;
-
-const NONCE: u64 = 7;
+const STAMP: Stamp = Stamp { time: 5, nonce: 7 };
 
 /// Appends whether so many commands, drawn from a seed and made in turn with deliveries of elements
 /// with so many ids, give the same on a replica that follows them as on one made anew of what it
@@ -86,7 +84,7 @@ fn is_same_anew(alloc: Global, replica: &mut Replica, command: &Command) -> Resu
 fn changed(replica: &mut Replica, command: &Command) -> Result<Option<List<Element>>, AllocError>
     requires { IsWithinLimits command.now }
 {
-    match replica.change(command, Capture::Now, TIME, NONCE) {
+    match replica.change(command, Capture::Now, STAMP) {
         Ok(given) => Ok(Some(given)),
         Err(Stop::Fault(_)) => Ok(None),
         Err(Stop::Memory) => Err(AllocError),

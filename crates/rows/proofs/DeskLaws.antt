@@ -10,7 +10,7 @@ use Rattle.history.specs.declared.planned.Direction.{Direction}
 use Rattle.history.specs.declared.planned.Direction.TheVariants.{Undo, Redo}
 use Rattle.history.specs.declared.step.Step.{Step}
 use Rattle.history.specs.declared.step.Step.TheVariants.{Done, Nothing}
-use Rattle.history.specs.Stacks.{Stacks, HaveStoredIds, HasTakenBack, noted, side}
+use Rattle.history.specs.Stacks.{Stacks, HaveStoredIds, HasStepped, noted, other, side}
 use Rattle.history.proofs.CallerLemmas.{ids-stored, ids-taken, left-ids, noted-ids}
 use Rattle.snapshot.specs.Pending.{pairs_since}
 use Rattle.snapshot.specs.Touched.{AreUntouched, HasTouched}
@@ -68,7 +68,8 @@ noted-desk stored snapshot before stacks entry stands desk = record {
 module _ (stored snapshot : List ElementValue) (time nonce : ℕ) (old new : Stacks) (desk : IsDesk stored snapshot old)
   where
     pub taken-back : (direction : Direction) (given : List ElementValue)
-        → HasTakenBack direction stored time nonce given old new → IsDesk stored snapshot new
+        → HasStepped stored time nonce given (side direction old) (side (other direction) old) (side direction new)
+        (side (other direction) new) → IsDesk stored snapshot new
     taken-back Undo given stepped =
         let ids = ids-stored stored given time nonce old.undo old.redo new.undo new.redo stepped desk.undo desk.redo in
         record { known = desk.known; undo = ids.0; redo = ids.1 }

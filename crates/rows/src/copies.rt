@@ -2,7 +2,7 @@
 
 use crate::samples::element;
 use delta::stamp;
-use elem::{Element, element_raw, same};
+use elem::{Element, Stamp, element_raw, same};
 use std::alloc::Global;
 use std::test::Fail;
 
@@ -25,7 +25,7 @@ fn a_copy_is_the_same(rt: HostRuntime) -> Result<(), Fail> {
 fn stamped(alloc: Global, version: u64) -> Result<(bool, [u64; 3]), Fail> {
     let text = format!(in alloc; "{{\"id\":\"e\",\"type\":\"line\",\"version\":{version}}}")?;
     let mut e = element(alloc, text.as_str())?;
-    let done = stamp(&mut e, 9, 8).is_ok();
+    let done = stamp(&mut e, Stamp { time: 9, nonce: 8 }).is_ok();
     Ok((done, [e.version, e.updated, e.nonce]))
 }
 

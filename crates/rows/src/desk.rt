@@ -4,7 +4,7 @@ use crate::samples::framed;
 use crate::told::{push_element, push_entry, push_pending, push_stacks};
 use board_base::{List, Stop};
 use delta::{Entry, VersionFull};
-use elem::Element;
+use elem::{Element, Stamp};
 use elem_store::Store;
 use history::{Direction, History, Step};
 use snapshot::{Snapshot, Touched};
@@ -12,6 +12,9 @@ use std::alloc::Global;
 use std::marker::Model;
 use std::slice;
 use std::test::Fail;
+
+/// What each step stamps with.
+const STAMP: Stamp = Stamp { time: 9, nonce: 8 };
 
 /// What is done on a desk.
 #[derive(Clone, Copy)]
@@ -163,7 +166,7 @@ impl Desk {
             parts: List::new(alloc),
         };
         self.history.reserve()?;
-        match self.history.plan(direction, pending, &self.store, 9, 8) {
+        match self.history.plan(direction, pending, &self.store, STAMP) {
             Ok((step, answer)) => {
                 self.history.put(step);
                 self.settle(told, Ok(answer))
@@ -178,7 +181,7 @@ impl Desk {
         self.history.reserve()?;
         match self
             .history
-            .plan(Direction::Undo, pending, &self.store, 9, 8)
+            .plan(Direction::Undo, pending, &self.store, STAMP)
         {
             Ok((step, answer)) => {
                 self.snapshot.put(captured);
