@@ -128,5 +128,5 @@ KeepsInput keeping bytes ends notes result =
     ((begun : Begun) × BeginsWith keeping.begins bytes begun
     × ((end : KeepEnd) × WasKeptTo keeping end ends × (result ≡ kept_status end)))
     ⊎ ((found : InputRefusal) × IsBeginsRefusal keeping.begins bytes found
-        × (result ≡ status.Refused)
+    × (result ≡ status.Refused)
     × Noted (fault.Refused found) notes.before notes.after)

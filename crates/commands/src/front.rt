@@ -46,7 +46,7 @@ fn first_scene(alloc: Global, bytes: &[u8]) -> Result<(Scene, usize), Stop<Input
     ensures scene { IfOk result (λ found. IsSceneAt bytes.now found.0 (drop found.1 bytes.now)) }
     ensures refused { (why : InputRefusal) → result ≡ Err (Stop.Fault why)
         → (fault : SceneFault) × (why ≡ InputRefusal.Text 1 fault)
-            × IsSceneFaultAt bytes.now 0 fault }
+        × IsSceneFaultAt bytes.now 0 fault }
 {
     match read_scene(alloc, bytes, 0) {
         Ok(found) => Ok(found),
@@ -56,7 +56,11 @@ fn first_scene(alloc: Global, bytes: &[u8]) -> Result<(Scene, usize), Stop<Input
 }
 
 /// The value that stands behind an offset as the second text, and the offset after it.
-fn value_behind(alloc: Global, bytes: &[u8], start: usize) -> Result<(Raw, usize), Stop<InputRefusal>>
+fn value_behind(
+    alloc: Global,
+    bytes: &[u8],
+    start: usize,
+) -> Result<(Raw, usize), Stop<InputRefusal>>
     requires { start ≤ length bytes.now }
     ensures within { IfOk result (λ found. found.1 ≤ length bytes.now) }
     ensures stands { IfOk result

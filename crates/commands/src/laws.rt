@@ -49,7 +49,7 @@ pub fn merge_is_of_the_best()
         (chosen : List ElementValue)
         → HasScenes bytes scenes → IsJoinedHead (heads_of scenes) head
         → AreBest (updates_of scenes) chosen
-            → IsAnswer (ProgramCommand.Merge layout) bytes (Ok text)
+        → IsAnswer (ProgramCommand.Merge layout) bytes (Ok text)
         → (written : List ℕ) × IsSceneText layout head (shown_of chosen) written
         × (text ≡ written ++ newline) }
 {}

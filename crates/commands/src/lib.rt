@@ -25,4 +25,4 @@ mod writing;
 pub use running::board;
 pub use status::{Fault, InputRefusal, Status};
 pub use sure::board_surely;
-pub use words::{Begins, ProgramCommand, Drill, Form, Insertion, Keeping, Request, Service};
+pub use words::{Begins, Drill, Form, Insertion, Keeping, ProgramCommand, Request, Service};

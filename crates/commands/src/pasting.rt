@@ -20,7 +20,11 @@ use std::alloc::Global;
 
 /// The text of the scene that the bytes begin with, and into which the clip behind it is pasted
 /// under the prefix.
-pub(crate) fn pasted(alloc: Global, bytes: &[u8], prefix: &Text) -> Result<Bytes, Stop<InputRefusal>>
+pub(crate) fn pasted(
+    alloc: Global,
+    bytes: &[u8],
+    prefix: &Text,
+) -> Result<Bytes, Stop<InputRefusal>>
     ensures pasted { IfOk result (IsPasted prefix.now bytes.now) }
     ensures refused { (why : InputRefusal) → result ≡ Err (Stop.Fault why)
         → IsPasteRefusal prefix.now bytes.now why }

@@ -54,7 +54,9 @@ pub(crate) fn inserted(
     ) {
         Ok(()) => Ok(shown_text(alloc, &head, store, Layout::Compact)?),
         Err(Stop::Fault(InsertFault::NoItem)) => Err(Stop::Fault(InputRefusal::NoItem)),
-        Err(Stop::Fault(InsertFault::Exists(place))) => Err(Stop::Fault(InputRefusal::Exists(place))),
+        Err(Stop::Fault(InsertFault::Exists(place))) => Err(Stop::Fault(InputRefusal::Exists(
+            place,
+        ))),
         Err(Stop::Memory) => Err(Stop::Memory),
     }
 }

@@ -186,7 +186,14 @@ impl Fault {
                 text_line(2, ": ", first, second, third, fourth)
             }
             Fault::Refused(InputRefusal::Library(number, found)) => library_line(number, found),
-            Fault::Refused(InputRefusal::NoItem) => text_line(2, ": no item", NONE, NONE, NONE, NONE),
+            Fault::Refused(InputRefusal::NoItem) => text_line(
+                2,
+                ": no item",
+                NONE,
+                NONE,
+                NONE,
+                NONE,
+            ),
             Fault::Refused(InputRefusal::Exists(place)) => exists_line(place),
             Fault::Refused(InputRefusal::Extra(at)) => [
                 Piece::Words("board: extra text at byte "),

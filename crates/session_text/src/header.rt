@@ -56,8 +56,7 @@ fn header_of(alloc: Global, members: &List<Member>) -> Result<Header, Stop<TextF
 
 /// The scene among these members, if one is given.
 pub(crate) fn scene(alloc: Global, members: &List<Member>) -> Result<Option<Scene>, Stop<TextFault>>
-    ensures { IsReadResult (SceneOf (value_unless_null (codes "scene") (pairs members.now))) result
-        }
+    ensures { IsReadResult (SceneOf (value_unless_null (codes "scene") (pairs members.now))) result }
 {
     match given(members, "scene") {
         Some(value) => scene_in(alloc, value),
