@@ -31,9 +31,7 @@ use crate::keeping::{keep, noted_keep_end};
 use crate::serving::{noted_end, serve};
 use crate::status::{Fault, Status};
 use crate::words;
-use crate::words::{
-    Command, Drill, Drill, Keeping, Keeping, ProgramCommand, Request, Request, Service, Service,
-};
+use crate::words::{Drill, Keeping, ProgramCommand, Request, Service};
 use crate::writing::written;
 use board_base::Bytes;
 use board_ends::{Journal, Links, Sink, Source};

@@ -13,7 +13,7 @@ use Rattle.delta.specs.Applied.{IsApplied}
 use Rattle.delta.specs.Delta.{Delta}
 use Rattle.delta.specs.Pairs.{Pair, EntryStandsFor, pair_with, pairs_from}
 use Rattle.delta.specs.Parts.{counted, inverse}
-use Rattle.delta.proofs.CallerLemmas.{Contains-to_map, undone-from, applied-back}
+use Rattle.delta.proofs.CallerLemmas.{undone-from, applied-back}
 use Rattle.history.specs.Steps.{AreGiven}
 use Rattle.history.specs.Undone.{EachIsElement, ArePairsOfElements, AreUndone, ComesBack}
 

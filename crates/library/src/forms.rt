@@ -6,7 +6,7 @@ ghost use Rattle.scene_json.specs.Named.{value_at};
 ghost use Rattle.elem.specs.Forms.{IsId, IsNull, IsTextOrNull};
 ghost use Rattle.library.specs.inner.Found.{IsFoundAs};
 ghost use Rattle.elem_read.specs.Faults.{Lacks};
-ghost use Rattle.library.specs.Found.{IsFoundAs};
+ghost use Rattle.library.specs.inner.Found.{IsFoundAs};
 ghost use Rattle.library.specs.Reading.{IsArray, IsStatus, IsTime};
 ghost use Rattle.library.specs.declared.fault.ItemFault.{ItemFault};
 

@@ -14,7 +14,7 @@ use Rattle.elem.specs.Facts.{IsElement, greatest_whole}
 use Rattle.elem.specs.Order.{unstamped}
 use Rattle.elem.specs.Said.{HasValidTexts, AreElements}
 use Rattle.elem.specs.Stamp.{stamped}
-use Rattle.elem.proofs.CallerLemmas.{bytes_less-same, bytes_less-asym, element_with_stamp, texts_with_stamp}
+use Rattle.elem.proofs.CallerLemmas.{element_with_stamp, texts_with_stamp}
 use Rattle.elem_store.specs.Updates.{element_of, ids_of, is_taken, is_newer}
 use Rattle.elem_store.proofs.CallerLemmas.{Contains-head, Contains-cons, Contains-cases, find-Some, is_some-find, list_any-false}
 use Rattle.delta.specs.Pairs.{Pair, IsChanged, pair_with, exchanged}
