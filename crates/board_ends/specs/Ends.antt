@@ -19,8 +19,8 @@ pub record SinkEnd : Type 0 where
 -- What is seen of links: the port of the last call of `listen` that answered Ok, and none before
 -- that; how many calls of `listen` there were; the events that `next` gave, and the pairs of link
 -- and text that were sent, where told; for each send whose link was gone the number of texts sent
--- before it, and the link, where told; how many calls of
--- `listen` and `next` failed; and how many sends found their link gone. This project's own.
+-- before it, and the link, where told; how many calls of `listen` and `next` failed; and how many
+-- sends found their link gone. This project's own.
 pub record LinksEnd : Type 0 where
   pub port : Option ℕ
   pub listens : ℕ

@@ -4,8 +4,8 @@
 ghost use Rattle.std.specs.Prelude.{IfOk, IfSome};
 ghost use Rattle.board_commands.specs.Limits.{IsWithinLimits};
 
-use crate::follow::{Drawing, are_same, draw, draw_elements, element_of_text};
-use crate::given::{count_of, given, number_or};
+use crate::follow::{Draws, are_same, draw, draw_elements, draws_of, element_of_text};
+use crate::given::given;
 use crate::told::push_truth;
 use board_base::{List, Stop};
 use board_commands::{Capture, Command, Side, Spot};
@@ -14,7 +14,6 @@ use elem::{Element, Stamp};
 use json_text::{Raw, Text};
 use rand_pcg::Pcg32;
 use replica::Replica;
-use scene_json::{members, shaped};
 use std::alloc::{AllocError, Global};
 
 /// What each command stamps with.
@@ -24,38 +23,23 @@ const STAMP: Stamp = Stamp { time: 5, nonce: 7 };
 /// with so many ids, give the same on a replica that follows them as on one made anew of what it
 /// stores.
 pub fn push_asked(alloc: Global, line: &mut Vec<u8>, value: &Raw) -> Result<(), Stop<Text>> {
-    let told = given(shaped(members(alloc, value))?, "member ask")?;
-    let seed = given(number_or(&told, "seed", 0), "member seed")?;
-    let changes = given(count_of(&told, "changes"), "member changes")?;
-    let ids = given(number_or(&told, "ids", 1), "member ids")?.max(1);
-    let named = given(number_or(&told, "named", ids), "member named")?;
-    let equal = given(ask_all(alloc, seed, changes, ids, named)?, "member ask")?;
+    let draws = draws_of(alloc, value, "member ask")?;
+    let equal = given(ask_all(alloc, draws)?, "member ask")?;
     push_truth(line, "equal", equal)?;
     Ok(())
 }
 
 /// Whether each command gives the same, or nothing where a drawn text is no element.
-fn ask_all(
-    alloc: Global,
-    seed: u64,
-    changes: usize,
-    ids: u64,
-    named: u64,
-) -> Result<Option<bool>, AllocError> {
-    let mut generator = generator_of(seed);
+fn ask_all(alloc: Global, draws: Draws) -> Result<Option<bool>, AllocError> {
+    let mut generator = generator_of(draws.seed);
     let mut replica = Replica::new(alloc);
-    for i in 0..changes {
-        let version = i as u64 + 1;
-        let drawing = Drawing {
-            version,
-            ids,
-            named,
-        };
+    for i in 0..draws.changes {
+        let drawing = draws.drawing(i as u64 + 1);
         let Some(elements) = draw_elements(alloc, &mut generator, drawing)? else {
             return Ok(None);
         };
         replica.deliver(elements.as_slice())?;
-        let Some(command) = draw_command(alloc, &mut generator, i, ids)? else {
+        let Some(command) = draw_command(alloc, &mut generator, i, draws.ids)? else {
             return Ok(None);
         };
         if !is_same_anew(alloc, &mut replica, &command)? {

@@ -24,37 +24,58 @@ pub struct Drawing {
     pub named: u64,
 }
 
-/// Appends whether the view of a replica is the view of its store made anew, after each of so many
-/// deliveries that are drawn from a seed, of elements with so many ids.
-pub fn push_followed(alloc: Global, line: &mut Vec<u8>, value: &Raw) -> Result<(), Stop<Text>> {
-    let told = given(shaped(members(alloc, value))?, "member follow")?;
+/// What is drawn in a case: from which seed, how many changes, of elements with how many ids, and
+/// how many of them are named by others.
+#[derive(Clone, Copy)]
+pub struct Draws {
+    pub seed: u64,
+    pub changes: usize,
+    pub ids: u64,
+    pub named: u64,
+}
+
+impl Draws {
+    /// What is drawn for the elements of a version.
+    pub fn drawing(self, version: u64) -> Drawing {
+        Drawing {
+            version,
+            ids: self.ids,
+            named: self.named,
+        }
+    }
+}
+
+/// What is drawn in a case by its member, which a fault names by these words.
+pub fn draws_of(alloc: Global, value: &Raw, member: &'static str) -> Result<Draws, Stop<Text>> {
+    let told = given(shaped(members(alloc, value))?, member)?;
     let seed = given(number_or(&told, "seed", 0), "member seed")?;
     let changes = given(count_of(&told, "changes"), "member changes")?;
     let ids = given(number_or(&told, "ids", 1), "member ids")?.max(1);
     let named = given(number_or(&told, "named", ids), "member named")?;
-    let equal = given(follow(alloc, seed, changes, ids, named)?, "member follow")?;
+    Ok(Draws {
+        seed,
+        changes,
+        ids,
+        named,
+    })
+}
+
+/// Appends whether the view of a replica is the view of its store made anew, after each of so many
+/// deliveries that are drawn from a seed, of elements with so many ids.
+pub fn push_followed(alloc: Global, line: &mut Vec<u8>, value: &Raw) -> Result<(), Stop<Text>> {
+    let draws = draws_of(alloc, value, "member follow")?;
+    let equal = given(follow(alloc, draws)?, "member follow")?;
     push_truth(line, "equal", equal)?;
     Ok(())
 }
 
 /// Whether the view is the one made anew after each delivery, or nothing where a drawn text is no
 /// element.
-fn follow(
-    alloc: Global,
-    seed: u64,
-    changes: usize,
-    ids: u64,
-    named: u64,
-) -> Result<Option<bool>, AllocError> {
-    let mut generator = generator_of(seed);
+fn follow(alloc: Global, draws: Draws) -> Result<Option<bool>, AllocError> {
+    let mut generator = generator_of(draws.seed);
     let mut replica = Replica::new(alloc);
-    for i in 0..changes {
-        let version = i as u64 + 1;
-        let drawing = Drawing {
-            version,
-            ids,
-            named,
-        };
+    for i in 0..draws.changes {
+        let drawing = draws.drawing(i as u64 + 1);
         let Some(elements) = draw_elements(alloc, &mut generator, drawing)? else {
             return Ok(None);
         };

@@ -22,8 +22,8 @@ is_gained same before now item = not (is_in same before item) && not (is_in same
 
 -- A list to which a change from `before` to `after` is applied: one that equals `before` becomes
 -- `after`. Another one loses the items of `before` that aren't in `after`, and gains at its end
--- those of `after` that are neither in
--- `before` nor in it, each once, in the order of their first occurrences.
+-- those of `after` that are neither in `before` nor in it, each once, in the order of their first
+-- occurrences.
 abbrev pub joined : {T : Type 0} → (T → T → Bool) → List T → List T → List T → List T
 joined same before after now =
     if are_same same now before then after

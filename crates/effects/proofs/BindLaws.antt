@@ -11,7 +11,7 @@ use Rattle.elem.specs.declared.parts.Binding.{Binding}
 use Rattle.elem.specs.declared.parts.BoundRef.{BoundRef}
 use Rattle.elem.specs.ElementValue.{ElementValue}
 use Rattle.elem.specs.Order.{unstamped}
-use Rattle.elem_store.specs.Updates.{element_of, ids_of}
+use Rattle.elem_store.specs.Updates.{element_of, ids_of, is_among}
 use Rattle.elem_store.proofs.CallerLemmas.{Contains-head}
 use Rattle.links.specs.Entries.{arrow_entry, lists}
 use Rattle.links.specs.Names.{is_id, is_arrow, target_of}
@@ -28,7 +28,7 @@ use Rattle.effects.specs.Effects.{effect}
 use Rattle.effects.specs.Given.{stored_after, Stays, Becomes}
 use Rattle.effects.specs.Keeping.{unbound_rest, BindKeeps}
 use Rattle.effects.specs.Linking.{end_at, opposite, with_end, with_end_of, listed, unlisted, without_listing_entry, bound_to, old_target}
-use Rattle.effects.specs.Naming.{is_among, apart_from}
+use Rattle.effects.specs.Naming.{apart_from}
 use Rattle.effects.specs.Placing.{with_view_key, key_at, key_in}
 use Rattle.effects.specs.Refusals.{is_kind_of, spot_ids}
 use Rattle.effects.proofs.CommandLaws.{end-either, end-given, end-unstamped, kind-at, right-kind}

@@ -9,7 +9,7 @@ use Rattle.elem.specs.ElementValue.{ElementValue}
 use Rattle.elem.specs.Facts.{greatest_whole}
 use Rattle.elem.specs.Order.{has_id, HaveDistinctIds}
 use Rattle.elem.specs.Stamp.{stamped}
-use Rattle.elem_store.specs.Updates.{ids_of}
+use Rattle.elem_store.specs.Updates.{ids_of, is_among}
 use Rattle.elem_store.proofs.CallerLemmas.{Contains-cons, Contains-head, find-None}
 use Rattle.index_repair.specs.Keyed.{keyed}
 use Rattle.index_repair.proofs.CallerLemmas.{keyed-distinct}
@@ -26,7 +26,6 @@ use Rattle.effects.specs.Changed.{is_changed, is_full, change_of, changes_of, cr
 use Rattle.effects.specs.Copying.{as_new, copies_at, shown_among}
 use Rattle.effects.specs.Differing.{differs}
 use Rattle.effects.specs.Effects.{effect}
-use Rattle.effects.specs.Naming.{is_among}
 use Rattle.view.specs.Shown.{is_live}
 use Rattle.effects.specs.Placing.{keys_at}
 use Rattle.effects.specs.inner.Prepared.{made_by, Prepares}

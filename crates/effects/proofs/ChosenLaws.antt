@@ -10,20 +10,18 @@ use Rattle.std.proofs.lemmas.Bool.{cases_Bool, and_from, and_parts}
 use Rattle.std.proofs.lemmas.Map.Text.{is_eq-slice_cmp}
 use Rattle.json_text.proofs.CallerLemmas.{bytes_eq-true}
 use Rattle.frac_keys.specs.Rising.{ends_rise, rise_between, are_rising}
-use Rattle.frac_keys.proofs.CallerLemmas.{sorted-rising}
+use Rattle.frac_keys.proofs.CallerLemmas.{sorted-rising, rise_between-filter, rise_between-lower}
 use Rattle.elem.specs.ElementValue.{ElementValue}
 use Rattle.elem.specs.Order.{unstamped}
-use Rattle.elem_store.specs.Updates.{element_of, ids_of}
+use Rattle.elem_store.specs.Updates.{element_of, ids_of, is_among}
 use Rattle.elem_store.proofs.CallerLemmas.{Contains-cons, Contains-head, same_elements}
 use Rattle.view.specs.Shown.{is_live}
 use Rattle.effects.specs.declared.refusal.Refusal.TheVariants.{VersionFull}
 use Rattle.effects.specs.Changed.{is_changed, is_full, change_of, changes_of, refusal_at}
 use Rattle.effects.specs.inner.Concerning.{change_at, is_full_at, LeavesOthers}
-use Rattle.effects.specs.Naming.{is_among}
 use Rattle.effects.proofs.CreatedLaws.{some-or-none}
 use Rattle.effects.proofs.DifferingLaws.{differs-not}
 use Rattle.effects.proofs.NamedLaws.{own-id}
-use Rattle.effects.proofs.OutcomeLaws.{rises-from}
 
 -- ---- ids of a set
 pub contains-among : (set : BTreeSet (List ℕ)) (id : List ℕ)
@@ -52,18 +50,6 @@ filtered-of p (e ∷ es) id = elim (cases_Bool (bytes_eq id e.id)) [
   ]
 ]
 
-filter-rises : (p : ElementValue → Bool) (low : Option (List ℕ)) (es : List ElementValue)
-    → rise_between low None (ids_of es) ≡ true → rise_between low None (ids_of (filter p es)) ≡ true
-filter-rises p low [] h = h
-filter-rises p low (e ∷ es) h =
-    let parts = and_parts (ends_rise low (Some e.id)) (rise_between (Some e.id) None (ids_of es)) h in
-    let later = filter-rises p (Some e.id) es parts.1 in
-    elim (cases_Bool (p e)) [
-      | inl passes ↦ rw passes (and_from (ends_rise low (Some e.id))
-          (rise_between (Some e.id) None (ids_of (filter p es))) parts.0 later)
-      | inr fails ↦ rw fails (rises-from low e.id (filter p es) parts.0 later)
-    ]
-
 module _ (stored : List ElementValue) where
   -- the stored elements of these ids
   abbrev pub chosen : List (List ℕ) → List ElementValue
@@ -77,7 +63,7 @@ module _ (stored : List ElementValue) where
       let later = chosen-rises (Some id) ids parts.1 in
       elim (some-or-none (element_of stored id)) [
         | inl none ↦ subst (λ (o : Option ElementValue). rise_between low None (ids_of (cons_option o (chosen ids)))
-            ≡ true) (sym none) (rises-from low id (chosen ids) parts.0 later)
+            ≡ true) (sym none) (rise_between-lower low id (ids_of (chosen ids)) parts.0 later)
         | inr some ↦ subst (λ (o : Option ElementValue). rise_between low None (ids_of (cons_option o (chosen ids)))
             ≡ true) (sym some.1)
             (subst (λ (k : List ℕ). (ends_rise low (Some k) && rise_between (Some k) None (ids_of (chosen ids))) ≡ true)
@@ -113,7 +99,8 @@ module _ (stored : List ElementValue) where
       → chosen ids ≡ filter (λ (e : ElementValue). is_among ids e.id) stored
   chosen-filtered ids ordered rising =
       same_elements (chosen ids) (filter (λ (e : ElementValue). is_among ids e.id) stored)
-      (chosen-rises None ids rising) (filter-rises (λ (e : ElementValue). is_among ids e.id) None stored ordered)
+      (chosen-rises None ids rising)
+      (rise_between-filter (λ (e : ElementValue). e.id) (λ (e : ElementValue). is_among ids e.id) None stored ordered)
       (λ id. chosen-of ids id ∙ sym (filtered-of (is_among ids) stored id))
 
   -- ---- along the ids

@@ -14,7 +14,7 @@ use Rattle.elem.specs.declared.parts.Binding.{Binding}
 use Rattle.elem.specs.declared.parts.BoundRef.{BoundRef}
 use Rattle.elem.specs.ElementValue.{ElementValue}
 use Rattle.elem.specs.Order.{unstamped, has_id}
-use Rattle.elem_store.specs.Updates.{element_of, ids_of}
+use Rattle.elem_store.specs.Updates.{element_of, ids_of, is_among}
 use Rattle.elem_store.proofs.CallerLemmas.{same_id, Contains-head, Contains-cons, find-Some, list_any-false}
 use Rattle.links.specs.Arrows.{names_target}
 use Rattle.elem.specs.Listings.{same_listing_entry}
@@ -35,7 +35,7 @@ use Rattle.effects.specs.Deleting.{kept_name, kept_end, kept_entries, without_na
 use Rattle.effects.specs.Effects.{effect}
 use Rattle.effects.specs.Given.{stored_after}
 use Rattle.effects.specs.Linking.{end_at, with_end, with_end_of, listed, unlisted, without_listing_entry, old_target}
-use Rattle.effects.specs.Naming.{is_among, is_some_that, apart_from}
+use Rattle.effects.specs.Naming.{is_some_that, apart_from}
 use Rattle.effects.specs.Placing.{Gap, is_of, others, first_key, last_key_or, gap_above, gap_at, gap_of, lies_within, key_within, key_at, key_in, with_view_key}
 use Rattle.effects.specs.Refusals.{is_kind_of, spot_ids, unless_right}
 use Rattle.effects.proofs.KeepingLaws.{Self, with_end_of-keeps}

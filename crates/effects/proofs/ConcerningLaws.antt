@@ -18,7 +18,7 @@ use Rattle.elem.specs.declared.kind.Role.TheVariants as roles
 use Rattle.elem.specs.ElementValue.{ElementValue}
 use Rattle.elem.specs.Order.{has_id}
 use Rattle.elem.specs.Listings.{same_listing_entry, same_listing_entry-same}
-use Rattle.elem_store.specs.Updates.{element_of, ids_of}
+use Rattle.elem_store.specs.Updates.{element_of, ids_of, is_among}
 use Rattle.elem_store.proofs.CallerLemmas.{Contains-cons, Contains-filter, Contains-head, find-Some, member}
 use Rattle.links.specs.declared.rows.LinkRow.{LinkRow}
 use Rattle.links.specs.Entries.{lists}
@@ -29,6 +29,7 @@ use Rattle.links.specs.Tables.{with_listing_entry}
 use Rattle.links.proofs.CallerLemmas.{list_any-from, list_any-map, list_any-filter}
 use Rattle.view.specs.Kept.{HaveRowsOf}
 use Rattle.view.specs.Shown.{is_live, live_elements}
+use Rattle.view.proofs.CallerLemmas.{namer-among}
 use Rattle.effects.specs.declared.effect.Effect.{Effect}
 use Rattle.effects.specs.declared.effect.Effect.TheVariants as effects
 use Rattle.effects.specs.declared.linking.Link.{Link}
@@ -39,7 +40,7 @@ use Rattle.effects.specs.Deleting.{has_gone_names}
 use Rattle.effects.specs.Effects.{with_group, without_group}
 use Rattle.effects.specs.Linking.{listed, unlisted, with_end, with_end_of, with_container_of, with_text_of, with_text_alone, without_listing_entry}
 use Rattle.effects.specs.Lookups.{IsLookup}
-use Rattle.effects.specs.Naming.{is_among, is_some_that}
+use Rattle.effects.specs.Naming.{is_some_that}
 use Rattle.effects.specs.inner.Prepared.{made_by, settled_in}
 use Rattle.effects.specs.Refusals.{is_live_id}
 use Rattle.effects.specs.Settings.{with_set_member}
@@ -360,14 +361,6 @@ keyed-left new ids left found empty is are id =
     ∙ sym (are id ∙ ap (λ (h : List ℕ → Bool). list_any h ids) (λ i k. is_eq-slice_cmp id k i))
 
 -- who names an id is among the namers of the table
-namer-among : (live : List ElementValue) (rows : List LinkRow) (id : List ℕ) (e : ElementValue)
-    → are_rising (ids_of live) ≡ true → HaveRowsOf live rows → Contains live e → names_id id e ≡ true
-    → is_among (map namer_of (filter (is_for id) rows)) e.id ≡ true
-namer-among live rows id e rising have c names =
-    list_any-map namer_of (bytes_eq e.id) (filter (is_for id) rows)
-    ∙ list_any-filter (is_for id) (λ (row : LinkRow). bytes_eq e.id row.namer) rows
-    ∙ have id e.id ∙ ap (λ o. option_map_or (names_id id) o false) (member None None live e rising c) ∙ names
-
 -- the set has the namers of an id, once those of the table are added
 pub namers-added : (lookup : Lookup) (is : IsLookup lookup) (id : List ℕ) (namers : List (List ℕ)) (mid new : Ids)
     → namers ≡ map namer_of (filter (is_for id) lookup.names.now.rows)

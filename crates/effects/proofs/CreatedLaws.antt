@@ -13,7 +13,7 @@ use Rattle.frac_keys.specs.Rising.{ends_rise, rise_between, are_rising}
 use Rattle.frac_keys.proofs.CallerLemmas.{bytes_less-turned}
 use Rattle.elem.specs.ElementValue.{ElementValue}
 use Rattle.elem.specs.Order.{has_id, HaveDistinctIds}
-use Rattle.elem_store.specs.Updates.{element_of, ids_of}
+use Rattle.elem_store.specs.Updates.{element_of, ids_of, is_among}
 use Rattle.elem_store.proofs.CallerLemmas.{Contains-head, Contains-cons, Contains-cases, filter-Contains, find-None, is_some-find, list_any-false}
 use Rattle.index_repair.specs.Keyed.{keyed, with_index}
 use Rattle.view.specs.Shown.{is_live, with_element}
@@ -27,7 +27,6 @@ use Rattle.effects.specs.declared.refusal.Refusal.{Refusal}
 use Rattle.effects.specs.declared.refusal.Refusal.TheVariants.{Exists}
 use Rattle.effects.specs.Changed.{created, created_at, with_created, with_new}
 use Rattle.effects.specs.Copying.{as_new, copies_at, shown_among}
-use Rattle.effects.specs.Naming.{is_among}
 use Rattle.effects.specs.Refusals.{existing, first_stored, refusal_if}
 
 pub some-or-none : {X : Type 0} (o : Option X) → (o ≡ None) ⊎ ((x : X) × (o ≡ Some x))

@@ -14,7 +14,7 @@ use Rattle.frac_keys.specs.Rising.{are_rising}
 use Rattle.elem.specs.ElementValue.{ElementValue}
 use Rattle.elem.specs.Order.{has_id, HaveDistinctIds}
 use Rattle.elem_store.specs.Places.{IsAt}
-use Rattle.elem_store.specs.Updates.{element_of, ids_of}
+use Rattle.elem_store.specs.Updates.{element_of, ids_of, is_among}
 use Rattle.elem_store.proofs.CallerLemmas.{Contains-filter, find-Some, is_some-find, member}
 use Rattle.links.specs.Arrows.{names_target}
 use Rattle.links.specs.Names.{is_target}
@@ -22,7 +22,6 @@ use Rattle.links.proofs.CallerLemmas.{list_any-from, list_any-map}
 use Rattle.view.specs.Shown.{is_live, live_elements}
 use Rattle.view.proofs.CallerLemmas.{HaveDistinctIds-rising, live_elements-rise}
 use Rattle.effects.specs.Lookups.{IsLookup}
-use Rattle.effects.specs.Naming.{is_among}
 use Rattle.effects.specs.Refusals.{is_live_id}
 use Rattle.effects.specs.declared.lookup.Lookup.{Lookup}
 use Rattle.effects.proofs.CreatedLaws.{some-or-none}

@@ -18,7 +18,8 @@ use Rattle.effects.specs.declared.effect.Effect.TheVariants as effects
 use Rattle.effects.specs.Deleting.{without_names}
 use Rattle.effects.specs.Effects.{effect, with_group, without_group}
 use Rattle.effects.specs.Linking.{listed, unlisted, without_listing_entry, with_end, with_end_of, with_container_of, with_text_of, with_text_alone, without_container_of, bound_to, old_target, old_container}
-use Rattle.effects.specs.Naming.{is_among, apart_from}
+use Rattle.elem_store.specs.Updates.{is_among}
+use Rattle.effects.specs.Naming.{apart_from}
 use Rattle.effects.specs.Placing.{with_view_key, key_at, key_in}
 use Rattle.effects.specs.inner.Prepared.{made_by, settled_in}
 use Rattle.effects.specs.Settings.{with_set_member}

@@ -21,6 +21,7 @@ use Rattle.links.specs.Texts.{is_for_text}
 use Rattle.view.specs.Shown.{is_live}
 use Rattle.board_commands.specs.declared.command.Command.{Command}
 use Rattle.board_commands.specs.declared.command.Command.TheVariants as commands
+use Rattle.links.proofs.CallerLemmas.{is_id-from}
 use Rattle.effects.specs.Changed.{outcome}
 use Rattle.effects.specs.Given.{stored_after, Stays}
 use Rattle.effects.specs.Keeping.{unlabelled_rest, arrow_entries, LabelKeeps, UnlabelKeeps}
@@ -162,9 +163,6 @@ apart-still id (Some new) (Some other) apart = elim (cases_Bool (bytes_eq other 
 
 pub apart-there : (other new : List ℕ) → other ≢ new → is_id other (apart_from (Some new) (Some other)) ≡ true
 apart-there other new apart = rw (bytes_eq-apart other new apart) (bytes_eq-same other)
-
-pub is_id-there : (id : List ℕ) (o : Option (List ℕ)) → o ≡ Some id → is_id id o ≡ true
-is_id-there id o is = ap (is_id id) is ∙ bytes_eq-same id
 
 -- ---- what a new listing or container leaves of an element
 pub either-bound : (b : Bool) (e : ElementValue) (bound : List BoundRef)
@@ -339,7 +337,7 @@ module _ (text container : List ℕ) (old : Option (List ℕ)) (e : ElementValue
           | inl names ↦ none-some container (sym (cond-true (is_id container e.container) None e.container names)
               ∙ later)
           | inr other ↦ both_ways (is_id container e.container) other
-              (is_id-there container e.container (sym (cond-false (is_id container e.container) None e.container other)
+              (is_id-from container e.container (sym (cond-false (is_id container e.container) None e.container other)
               ∙ later))
         ])
   ]
@@ -514,7 +512,7 @@ module _ (stored shown : List ElementValue) (time nonce : ℕ) (given : List Ele
         ap (λ (d : ElementValue). lists d.bound (text_entry text)) from.2
         ∙ ap (λ (bound : List BoundRef). lists bound (text_entry text)) (unlabelled-bound text held from.0)
         ∙ unlisting-lists held (text_entry text) from.0.id from.0.bound
-        (is_id-there from.0.id held (was ∙ ap Some (own-id stored id from.0 from.1)))
+        (is_id-from from.0.id held (was ∙ ap Some (own-id stored id from.0 from.1)))
 
     pub unlabel-keeps : (id : List ℕ) (old : ElementValue) → element_of stored id ≡ Some old → is_live old ≡ true
         → IsSomeAnd (stored_after stored given id) (λ (e : ElementValue). UnlabelKeeps stored text old e)

@@ -10,7 +10,7 @@ use Rattle.frac_keys.specs.Rising.{are_rising}
 use Rattle.frac_keys.proofs.CallerLemmas.{bytes_less_itself}
 use Rattle.elem.specs.ElementValue.{ElementValue}
 use Rattle.elem.specs.Order.{unstamped}
-use Rattle.elem_store.specs.Updates.{ids_of}
+use Rattle.elem_store.specs.Updates.{ids_of, is_among}
 use Rattle.elem_store.proofs.CallerLemmas.{Contains-head}
 use Rattle.delta.specs.Headers.{value_named}
 use Rattle.delta.specs.Rest.{made, without_first, with_value}
@@ -19,7 +19,6 @@ use Rattle.board_commands.specs.declared.command.Command.TheVariants as commands
 use Rattle.effects.specs.Changed.{outcome}
 use Rattle.effects.specs.Effects.{effect, with_group, without_group}
 use Rattle.effects.specs.Given.{stored_after, Stays, Becomes}
-use Rattle.effects.specs.Naming.{is_among}
 use Rattle.effects.specs.Settings.{given_value, with_set_member}
 use Rattle.effects.proofs.NamedLaws.{named-after, own-id, among-Contains, chosen, passed, stays, becomes}
 

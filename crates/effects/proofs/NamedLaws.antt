@@ -8,7 +8,7 @@ use Rattle.json_text.proofs.CallerLemmas.{bytes_eq-true}
 use Rattle.frac_keys.specs.Rising.{are_rising}
 use Rattle.elem.specs.ElementValue.{ElementValue}
 use Rattle.elem.specs.Order.{unstamped, has_id}
-use Rattle.elem_store.specs.Updates.{element_of, ids_of}
+use Rattle.elem_store.specs.Updates.{element_of, ids_of, is_among}
 use Rattle.elem_store.proofs.CallerLemmas.{same_id, find-Some, is_some-find, list_any-false}
 use Rattle.view.specs.Shown.{is_live}
 use Rattle.board_commands.specs.declared.command.Command.{Command}
@@ -16,7 +16,6 @@ use Rattle.effects.specs.Changed.{created, outcome}
 use Rattle.effects.specs.Differing.{differs}
 use Rattle.effects.specs.Effects.{effect}
 use Rattle.effects.specs.Given.{stored_after, Stays, Becomes}
-use Rattle.effects.specs.Naming.{is_among}
 use Rattle.effects.specs.declared.refusal.Refusal.TheVariants.{NoElement}
 use Rattle.effects.specs.Refusals.{first_missing, is_live_id, command_ids, own_spot}
 use Rattle.effects.proofs.DifferingLaws.{differs-not}

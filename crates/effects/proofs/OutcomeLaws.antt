@@ -7,7 +7,7 @@ use Rattle.std.proofs.lemmas.Bool.{cases_Bool, false≢true, both_ways, and_part
 use Rattle.std.proofs.lemmas.Option.{none-some, same_Some, cond_some}
 use Rattle.frac_keys.specs.Keys.{bytes_less}
 use Rattle.frac_keys.specs.Rising.{ends_rise, rise_between, are_rising}
-use Rattle.frac_keys.proofs.CallerLemmas.{ends_rise-none, ends_rise-trans}
+use Rattle.frac_keys.proofs.CallerLemmas.{rise_between-lower}
 use Rattle.elem.specs.ElementValue.{ElementValue}
 use Rattle.elem.specs.Order.{beats, unstamped, has_id, HaveDistinctIds}
 use Rattle.elem.specs.Stamp.{stamped}
@@ -41,14 +41,6 @@ pub stored_after-kept : (stored given : List ElementValue) (id : List ℕ) → e
 stored_after-kept stored given id none = ap (λ o. option_or o (element_of stored id)) none
 
 -- ---- what a function of elements gives of them
-pub rises-from : (a : Option (List ℕ)) (k : List ℕ) (es : List ElementValue) → ends_rise a (Some k) ≡ true
-    → rise_between (Some k) None (ids_of es) ≡ true → rise_between a None (ids_of es) ≡ true
-rises-from a k [] less h = ends_rise-none a
-rises-from a k (e ∷ es) less h =
-    let parts = and_parts (bytes_less k e.id) (rise_between (Some e.id) None (ids_of es)) h in
-    and_from (ends_rise a (Some e.id)) (rise_between (Some e.id) None (ids_of es))
-    (ends_rise-trans a k (Some e.id) less parts.0) parts.1
-
 module _ (f : ElementValue → Option ElementValue) where
   pub mapped-cases : (es : List ElementValue) (e : ElementValue) → Contains (filter_map f es) e → (old : ElementValue)
       × Contains es old × (f old ≡ Some e)
@@ -93,7 +85,7 @@ module _ (f : ElementValue → Option ElementValue) where
       let later = mapped-rises keeps (Some e.id) es parts.1 in
       elim (some-or-none (f e)) [
         | inl none ↦ subst (λ (o : Option ElementValue). rise_between a None (ids_of (cons_option o (filter_map f es)))
-            ≡ true) (sym none) (rises-from a e.id (filter_map f es) parts.0 later)
+            ≡ true) (sym none) (rise_between-lower a e.id (ids_of (filter_map f es)) parts.0 later)
         | inr some ↦ subst (λ (o : Option ElementValue). rise_between a None (ids_of (cons_option o (filter_map f es)))
             ≡ true) (sym some.1)
             (subst (λ (k : List ℕ). (ends_rise a (Some k) && rise_between (Some k) None (ids_of (filter_map f es)))

@@ -7,7 +7,7 @@ use Rattle.std.specs.Option.{option_map, option_map_or, unwrap_or}
 use Rattle.std.proofs.lemmas.Bool.{cases_Bool, cond-false, cond-true, not-false}
 use Rattle.std.proofs.lemmas.List.Folds.{list_any-append}
 use Rattle.elem.specs.ElementValue.{ElementValue}
-use Rattle.elem_store.specs.Updates.{element_of}
+use Rattle.elem_store.specs.Updates.{element_of, is_among}
 use Rattle.elem_store.proofs.CallerLemmas.{is_some-find, list_any-false}
 use Rattle.view.specs.Shown.{is_live}
 use Rattle.index_repair.specs.Keyed.{index_of}
@@ -15,7 +15,6 @@ use Rattle.effects.specs.inner.Concerning.{DeletesLive}
 use Rattle.effects.specs.Copying.{settled_for}
 use Rattle.effects.specs.Deleting.{deleted_from}
 use Rattle.effects.specs.Lookups.{IsLookup}
-use Rattle.effects.specs.Naming.{is_among}
 use Rattle.effects.specs.Placing.{with_view_key}
 use Rattle.effects.specs.Effects.{effect}
 use Rattle.effects.specs.inner.Prepared.{elements_among, made_by, HasKeys, HasIds, settled_in, IsSoundEffect, Prepares}

@@ -6,7 +6,7 @@ use Rattle.elem.specs.Order.{unstamped}
 use Rattle.index_repair.specs.Keyed.{keyed}
 use Rattle.copies.specs.Copies.{copies_of}
 use Rattle.board_commands.specs.declared.command.Spot.{Spot}
-use Rattle.effects.specs.Naming.{is_among}
+use Rattle.elem_store.specs.Updates.{is_among}
 use Rattle.effects.specs.Placing.{keys_at}
 
 -- the shown elements of these ids, in the order of the scene

@@ -6,7 +6,7 @@ use Rattle.board_commands.specs.declared.command.Command.TheVariants as commands
 use Rattle.effects.specs.Copying.{settled_for, shown_among}
 use Rattle.effects.specs.Deleting.{deleted_from}
 use Rattle.effects.specs.Linking.{bound_to, old_target, labelled, unlabelled, old_container}
-use Rattle.effects.specs.Naming.{is_among}
+use Rattle.elem_store.specs.Updates.{is_among}
 use Rattle.effects.specs.Placing.{with_view_key, key_at, key_in, with_key_of}
 use Rattle.effects.specs.Settings.{with_set_member}
 

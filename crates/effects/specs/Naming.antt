@@ -1,10 +1,5 @@
--- Ids among others, and what names one.
+-- What names an id.
 use Rattle.std.specs.Prelude.{ℕ, List, Bool, false, Option, Some, None, bytes_eq, if◌then◌else◌}
-use Rattle.std.specs.List.{list_any}
-
--- whether an id is one of these
-abbrev pub is_among : List (List ℕ) → List ℕ → Bool
-is_among ids id = list_any (bytes_eq id) ids
 
 -- whether there is a name and it passes
 abbrev pub is_some_that : (List ℕ → Bool) → Option (List ℕ) → Bool

@@ -6,7 +6,7 @@ use Rattle.scene_json.specs.Named.{value_at}
 use Rattle.delta.specs.Rest.{with_value}
 use Rattle.restore_table.specs.Table.{defaults}
 use Rattle.elem.specs.ElementValue.{ElementValue}
-use Rattle.effects.specs.Naming.{is_among}
+use Rattle.elem_store.specs.Updates.{is_among}
 
 -- the names of the members that no value can be given: what an element is, its stamp, and what
 -- other commands change

@@ -6,12 +6,11 @@ ghost use Rattle.std.specs.BTreeSet.{contains};
 ghost use Rattle.std.specs.Cmp.Lexicographic.{slice_cmp};
 ghost use Rattle.std.specs.Ordering.{nat_cmp};
 ghost use Rattle.elem.specs.ElementValue.{ElementValue};
-ghost use Rattle.elem_store.specs.Updates.{element_of};
+ghost use Rattle.elem_store.specs.Updates.{element_of, is_among};
 ghost use Rattle.links.specs.Names.{is_id, target_of};
 ghost use Rattle.links.specs.Steps.{names_id};
 ghost use Rattle.effects.specs.inner.Concerning.{DeletesLive, HasNamers, HaveLinked, IsWithin, LeavesOthers};
 ghost use Rattle.effects.specs.Lookups.{IsLookup};
-ghost use Rattle.effects.specs.Naming.{is_among};
 ghost use Rattle.effects.specs.inner.Prepared.{made_by};
 
 use crate::effect::Effect;

@@ -2,7 +2,7 @@
 
 ghost use Rattle.std.specs.Prelude.{◌≡◌, IfOk};
 ghost use Rattle.effects.specs.Effects as effects;
-ghost use Rattle.effects.specs.Naming.{is_among};
+ghost use Rattle.elem_store.specs.Updates.{is_among};
 
 use board_base::List;
 use elem::Element;

@@ -72,8 +72,7 @@ abbrev pub AllNest : ℕ → List Member → Type 0
 AllNest limit members = AllByRecursion (λ (member : Member). IsCompact limit member.value) members
 
 -- The further members of a binding have rising names, none of them `elementId`; it is in an element
--- that nests at most
--- 120.
+-- that nests at most 120.
 pub record IsBinding (binding : Binding) : Type 0 where
   pub rise : are_rising (names binding.rest) ≡ true
   pub free : list_any (bytes_eq (codes "elementId")) (names binding.rest) ≡ false

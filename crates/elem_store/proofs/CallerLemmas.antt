@@ -1,7 +1,7 @@
 -- The lemmas that crates above cite; nothing else of this folder is cited there.
 pub use Rattle.elem_store.proofs.Lists.{Contains-cases, Contains-cons, Contains-filter, Contains-head, filter-Contains}
 pub use Rattle.elem_store.proofs.Lists.{find-None, find-Some, is_some-find, list_any-false}
-pub use Rattle.elem_store.proofs.Ids.{of_itself, of_other, of_same, same_id}
+pub use Rattle.elem_store.proofs.Ids.{is_at-among, is_at-bytes, of_itself, of_other, of_same, same_id}
 pub use Rattle.elem_store.proofs.Leader.{joined_leader, leader, stored-append, stored-leader}
 pub use Rattle.elem_store.proofs.BestUpdates.{IsBestOf-stored, stored-None}
 pub use Rattle.elem_store.proofs.Rising.{above, earlier_less, less-less, less-other, member, none_above, same_elements}

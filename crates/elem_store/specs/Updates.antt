@@ -54,6 +54,10 @@ takings updates (e ∷ more) =
 abbrev pub ids_of : List ElementValue → List (List ℕ)
 ids_of elements = map (λ (e : ElementValue). e.id) elements
 
+-- whether an id is one of these
+abbrev pub is_among : List (List ℕ) → List ℕ → Bool
+is_among ids id = list_any (bytes_eq id) ids
+
 -- These are the stored elements of the updates, one for each id, in the order of the ids.
 pub record AreStored (updates elements : List ElementValue) : Type 0 where
   pub ordered : are_rising (ids_of elements) ≡ true

@@ -1,5 +1,5 @@
 -- The keys between two ends rise strictly from the one to the other.
-use Rattle.std.proofs.Common.{◌≡◌, ℕ, zero, suc, ◌+◌, ◌-◌, ◌/◌, ◌≤◌, true, List, [], ◌∷◌, ◌++◌, length, Option, Some, None, eqb, refl, sym, ◌∙◌, subst, length-append, ◌<◌, le_refl, arith, ap, is_lt, nat_cmp, Less}
+use Rattle.std.proofs.Common.{◌≡◌, ℕ, zero, suc, ◌+◌, ◌-◌, ◌/◌, ◌≤◌, Bool, true, false, cond, List, [], ◌∷◌, ◌++◌, length, map, filter, Option, Some, None, eqb, refl, sym, ◌∙◌, subst, length-append, ◌<◌, le_refl, arith, ap, is_lt, nat_cmp, Less}
 use Rattle.std.specs.List.{list_all, AllByRecursion}
 use Rattle.std.proofs.lemmas.Bool.{cond_both, and_from, and_parts, eqb-true, eqb-false}
 use Rattle.std.proofs.lemmas.List.Folds.{list_all-append}
@@ -102,6 +102,27 @@ AreBetween-join {a} {b} {m} {n} {xs} {k} {ys} total e key h l = record {
 pub ends_rise-none : (a : Option (List ℕ)) → ends_rise a None ≡ true
 ends_rise-none None = refl
 ends_rise-none (Some a) = refl
+
+-- what rises from an end rises from any lesser one
+pub rise_between-lower : (a : Option (List ℕ)) (k : List ℕ) (keys : List (List ℕ)) → ends_rise a (Some k) ≡ true
+    → rise_between (Some k) None keys ≡ true → rise_between a None keys ≡ true
+rise_between-lower a k [] l h = ends_rise-none a
+rise_between-lower a k (x ∷ keys) l h =
+    let p = and_parts (ends_rise (Some k) (Some x)) (rise_between (Some x) None keys) h in
+    and_from (ends_rise a (Some x)) (rise_between (Some x) None keys) (ends_rise-trans a k (Some x) l p.0) p.1
+
+-- some of a list whose keys rise have rising keys
+pub rise_between-filter : {X : Type 0} (key_of : X → List ℕ) (p : X → Bool) (a : Option (List ℕ)) (xs : List X)
+    → rise_between a None (map key_of xs) ≡ true → rise_between a None (map key_of (filter p xs)) ≡ true
+rise_between-filter key_of p a [] h = h
+rise_between-filter key_of p a (x ∷ xs) h =
+    let parts = and_parts (ends_rise a (Some (key_of x))) (rise_between (Some (key_of x)) None (map key_of xs)) h in
+    let rest = rise_between-filter key_of p (Some (key_of x)) xs parts.1 in
+    elim (p x) as (λ b. rise_between a None (map key_of (cond b (x ∷ filter p xs) (filter p xs))) ≡ true) [
+      | true ↦ and_from (ends_rise a (Some (key_of x))) (rise_between (Some (key_of x)) None (map key_of (filter p xs)))
+          parts.0 rest
+      | false ↦ rise_between-lower a (key_of x) (map key_of (filter p xs)) parts.0 rest
+    ]
 
 keys_above-law : (a : Option (List ℕ)) (n : ℕ) → is_key_or_none a ≡ true → AreBetween a None n (keys_above a n)
 unfolding keys_above

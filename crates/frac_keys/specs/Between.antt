@@ -39,8 +39,7 @@ midpoint a (digit ∷ rest) =
     else midpoint_beside a (digit ∷ rest))
 
 -- Digits with one added or taken away: the last one that isn't `full` moves on, the full ones
--- behind it become
--- `reset`; none where all are full.
+-- behind it become `reset`; none where all are full.
 unfoldable pub carried : (full reset : ℕ) → (ℕ → ℕ) → List ℕ → Option (List ℕ)
 carried full reset next [] = None
 carried full reset next (digit ∷ rest) =

@@ -35,7 +35,8 @@ use Rattle.effects.specs.Deleting.{kept_name, kept_entries, kept_end, without_na
 use Rattle.effects.specs.Effects.{effect, with_group, without_group}
 use Rattle.board_commands.specs.Limits.{IsRest, IsWithinLimits}
 use Rattle.effects.specs.Linking.{without_listing_entry, listed, unlisted, with_end, with_end_of, old_target, old_container, with_container_of, without_other_texts, with_text_alone, with_text_of, without_container_of}
-use Rattle.effects.specs.Naming.{is_among, is_some_that, apart_from}
+use Rattle.elem_store.specs.Updates.{is_among}
+use Rattle.effects.specs.Naming.{is_some_that, apart_from}
 use Rattle.effects.specs.Placing.{with_view_key, settled_key, key_at, key_in}
 use Rattle.effects.specs.Refusals.{guarded}
 use Rattle.effects.specs.Settings.{is_protected, given_value, with_set_member}

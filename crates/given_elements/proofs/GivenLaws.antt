@@ -9,7 +9,7 @@ use Rattle.elem.specs.ElementValue.{ElementValue}
 use Rattle.elem.specs.Facts.{greatest_whole}
 use Rattle.elem.specs.Said.{AreElements}
 use Rattle.elem.specs.Stamp.{stamped}
-use Rattle.elem_store.specs.Updates.{element_of}
+use Rattle.elem_store.specs.Updates.{element_of, is_among}
 use Rattle.copies.specs.Copies.{copies_of}
 use Rattle.copies.proofs.CallerLemmas.{copies-elements}
 use Rattle.index_repair.specs.Keyed.{HaveRisingKeys, keyed}
@@ -22,7 +22,6 @@ use Rattle.board_commands.specs.declared.command.Command.TheVariants as commands
 use Rattle.board_commands.specs.declared.command.Spot.{Spot}
 use Rattle.effects.specs.declared.refusal.Refusal.{Refusal}
 use Rattle.effects.specs.Copying.{as_new, copies_at, shown_among}
-use Rattle.effects.specs.Naming.{is_among}
 use Rattle.effects.specs.Changed.{is_changed, is_full, change_of, changes_of, created, with_created, with_new, outcome, outcome_from, outcome_unless}
 use Rattle.effects.specs.Effects.{effect}
 use Rattle.board_commands.specs.Limits.{IsWithinLimits}

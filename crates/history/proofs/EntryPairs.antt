@@ -22,8 +22,8 @@ use Rattle.delta.proofs.CallerLemmas.{entry-exchanged, same_members, later_great
 use Rattle.undoing.specs.Differing.{differ}
 use Rattle.undoing.specs.Steps.{Reverted, is_visible, is_full, is_seen, reverted, given, full_id}
 use Rattle.undoing.specs.Undoing.{undone}
-use Rattle.undoing.proofs.CallerLemmas.{rise-lower}
 use Rattle.undoing.proofs.CallerLemmas as turns
+use Rattle.frac_keys.proofs.CallerLemmas.{rise_between-lower}
 use Rattle.history.specs.Pairs.{IsEntryOf}
 use Rattle.history.specs.Steps.{Reverts, Differ, IsNow, IsSeen, AreGiven, IsFullId, IsLeastFull}
 use Rattle.history.proofs.Reverting.{undone-reverts, reverts-once, differ-from, differ-to}
@@ -49,7 +49,7 @@ find-least id_of p (y ∷ ys) x rising c h least = elim (Contains-cases y ys x c
       (λ t. both_ways (bytes_less (id_of y) (id_of x)) (least y (Contains-head y ys) t)
       (later_greater id_of [] y ys x rising later)) in
       cond-false (p y) (Some y) (find p ys) not
-      ∙ find-least id_of p ys x (rise-lower None (id_of y) (map id_of ys) refl rising) later h
+      ∙ find-least id_of p ys x (rise_between-lower None (id_of y) (map id_of ys) refl rising) later h
       (λ z d t. least z (Contains-cons y ys z d) t)
 ]
 

@@ -103,7 +103,7 @@ repaired-cut above before key after below =
 less-order : IsStrictWeakOrder bytes_less
 less-order = ranks_by nat_list_cmp_total (λ a. a)
 
-under-last : (x : Option (List ℕ)) (last key : List ℕ) → is_up_to x (Some last) ≡ true → bytes_less last key ≡ true
+pub under-last : (x : Option (List ℕ)) (last key : List ℕ) → is_up_to x (Some last) ≡ true → bytes_less last key ≡ true
     → is_below (Some key) x ≡ true
 under-last None last key up less = cc
 under-last (Some a) last key up less =

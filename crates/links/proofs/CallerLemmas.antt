@@ -8,5 +8,6 @@ pub use Rattle.links.proofs.Near.{near-all, near-seen}
 pub use Rattle.links.proofs.RowLaws.{rows_of-named}
 pub use Rattle.links.proofs.SettledLaws.{distinct-texts, links-again, unlinked-links}
 pub use Rattle.links.proofs.Tabled.{list_any-filter, list_any-map, seen-more}
-pub use Rattle.links.proofs.TextLaws.{settled_texts-again}
+pub use Rattle.links.proofs.TextLaws.{is_id-from, settled_texts-again}
+pub use Rattle.links.proofs.Unlinked.{filter-none_of}
 pub use Rattle.links.proofs.UnplacedLaws.{links-unplaced}

@@ -6,6 +6,7 @@ use Rattle.std.proofs.lemmas.Bool.{cases_Bool, cond-false, false_from_ne_true, b
 use Rattle.std.proofs.lemmas.List.{nil_from_length}
 use Rattle.elem.specs.ElementValue.{ElementValue}
 use Rattle.elem.specs.declared.parts.BoundRef.{BoundRef}
+use Rattle.json_text.proofs.CallerLemmas.{none-is}
 use Rattle.links.specs.Arrows.{names_target, is_bound_to, is_true_entry, arrow_entries, text_entries, listing, with_settled_links, settled_arrows}
 use Rattle.links.specs.Entries.{arrow_entry, first_entries}
 use Rattle.links.specs.Names.{id_of, is_text, is_arrow, is_id, can_hold_text, target_of, end_names, has_end_at, names_container, is_target}
@@ -13,10 +14,6 @@ use Rattle.links.specs.Settled.{is_linked}
 use Rattle.links.specs.Texts.{is_text_entry, keeps_container, text_of, with_settled_container, settled_texts}
 use Rattle.links.proofs.Members.{Contains-head, Contains-cons, map-same, list_any-from, find-None}
 use Rattle.links.proofs.Tabled.{held, not_held}
-
-none_is : {X : Type 0} (o : Option X) → is_some o ≡ false → o ≡ None
-none_is None h = refl
-none_is (Some x) h = cc
 
 kept-none : {X : Type 0} (b : Bool) (o : Option X) → o ≡ None → cond b o None ≡ o
 kept-none true o h = refl
@@ -30,7 +27,8 @@ list_any-none : {X : Type 0} (p : X → Bool) (xs : List X) (x : X) → list_any
 list_any-none p xs x none there =
     false_from_ne_true (p x) (λ h. both_ways (list_any p xs) none (list_any-from p xs x there h))
 
-filter-none_of : {X : Type 0} (p : X → Bool) (xs : List X) → ((x : X) → Contains xs x → p x ≡ false) → filter p xs ≡ []
+pub filter-none_of : {X : Type 0} (p : X → Bool) (xs : List X) → ((x : X) → Contains xs x → p x ≡ false)
+    → filter p xs ≡ []
 filter-none_of p [] h = refl
 filter-none_of p (x ∷ xs) h =
     cond-false (p x) (x ∷ filter p xs) (filter p xs) (h x (Contains-head x xs))
@@ -49,7 +47,7 @@ settled_texts-none list none =
     map-stays (with_settled_container list) list
     (λ e there. ap (λ container. record e { container = container })
     (kept-none (keeps_container list e) e.container
-    (none_is e.container (list_any-none (λ (x : ElementValue). is_some x.container) list e none there))))
+    (none-is e.container (list_any-none (λ (x : ElementValue). is_some x.container) list e none there))))
 
 -- what an element without links lacks
 record LacksLinks (e : ElementValue) : Type 0 where
@@ -73,9 +71,9 @@ lacks e h =
     let third = or_both (is_some e.start_binding) (is_some e.end_binding) second.1 in
     record {
       bound = empty_is e.bound first.0;
-      container = none_is e.container second.0;
-      start = none_is e.start_binding third.0;
-      end' = none_is e.end_binding third.1;
+      container = none-is e.container second.0;
+      start = none-is e.start_binding third.0;
+      end' = none-is e.end_binding third.1;
     }
 
 module _ (list : List ElementValue) (none : list_any is_linked list ≡ false) where

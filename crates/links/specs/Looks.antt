@@ -70,7 +70,7 @@ HasItsContainer among list e =
 
 -- A test that all pass at which settling looks for the element of an id: itself, what links to it,
 -- its container, if it is a text, the targets of its ends, and of those that are texts the
--- containers; of each container with its texts.
+-- containers; each container together with the texts that name it.
 pub record HasAllSeen (among : ElementValue → Bool) (list : List ElementValue) (id : List ℕ) :
     Type 0 where
   pub own : (e : ElementValue) → Contains list e → has_id id e ≡ true → among e ≡ true

@@ -19,6 +19,11 @@ named_ids e = first_texts (id_there e.container
     ++ (id_there e.frame ++ (id_there (target_of e.start_binding)
     ++ id_there (target_of e.end_binding))))
 
+-- the ids that an element links to: its container's and those that its ends are bound to
+abbrev pub linked_ids : ElementValue → List (List ℕ)
+linked_ids e = id_there e.container ++ (id_there (target_of e.start_binding)
+    ++ id_there (target_of e.end_binding))
+
 -- the row of an id that an element names, and the rows of all of them
 abbrev pub row_of : ElementValue → List ℕ → LinkRow
 row_of e id = record { named = id; namer = e.id }

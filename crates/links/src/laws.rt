@@ -56,8 +56,9 @@ pub fn three_steps_are_enough()
 
 /// What settling makes of an element rests on that alone at which it looks: the element; which
 /// arrows and texts name it; its container, if it is a text, with the texts that name this; and the
-/// kind of what its ends name, and of a text among these the container. The other arrows that are
-/// bound to what its ends name play no part.
+/// kind of what its ends name, and a text among these, with its container. The other arrows that
+/// are bound to what its ends name play no part, and neither does the listing of that, but where it
+/// is a text.
 pub fn what_is_seen_is_enough()
     // Two lists that look alike to an element settle it alike.
     ensures alike { (list other : List ElementValue) (id : List ℕ)

@@ -33,18 +33,19 @@ pub fn rows_of(alloc: Global, e: &Element) -> Result<List<LinkRow>, AllocError>
     Ok(List::from_vec(rows_for(alloc, named, e)?))
 }
 
-/// The ids that an element links to, its container's and those that its ends are bound to: one id
-/// as often as it is named. It is `rows_of` without the frame. Fails only for want of memory.
+/// The ids that an element links to, its container's and those that its ends are bound to, in this
+/// order: one id as often as it is named. Fails only for want of memory.
 pub fn linked_ids(alloc: Global, e: &Element) -> Result<Vec<Text>, AllocError>
-    ensures { IfOk result (λ ids. (id : Items ℕ)
+    ensures exact { IfOk result (λ ids. ids.items ≡ words.linked_ids e.now) }
+    ensures linked { IfOk result (λ ids. (id : Items ℕ)
         → list_any (bytes_eq id) ids.items ≡ links_to id e.now) }
 {
-    let mut ids = Vec::new(alloc);
+    let mut linked = Vec::new(alloc);
     let (start, end) = ends_of(e);
-    push_id(&mut ids, start)?;
-    push_id(&mut ids, end)?;
-    push_id(&mut ids, container_of(e))?;
-    Ok(ids)
+    push_id(&mut linked, container_of(e))?;
+    push_id(&mut linked, start)?;
+    push_id(&mut linked, end)?;
+    Ok(linked)
 }
 
 /// A row for each of these ids that an element names.

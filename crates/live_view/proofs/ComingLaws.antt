@@ -15,7 +15,7 @@ use Rattle.index_repair.specs.Repair.{repaired, NeverFall}
 use Rattle.elem.specs.ElementValue.{ElementValue}
 use Rattle.elem_store.specs.Places.{IsAt, IsGapFor}
 use Rattle.elem.specs.Order.{has_id, HaveDistinctIds}
-use Rattle.elem_store.specs.Updates.{element_of, ids_of}
+use Rattle.elem_store.specs.Updates.{element_of, ids_of, is_among}
 use Rattle.elem_store.proofs.CallerLemmas.{HasTaken-insert, element-gap, element-at, same_id, of_same, find-Some, filter-Contains, Contains-head, member}
 use Rattle.links.proofs.CallerLemmas.{distinct-among, map-map}
 use Rattle.view.specs.Settled.{settled, unsettled}
@@ -26,7 +26,7 @@ use Rattle.view.proofs.CallerLemmas.{AllPairs-in_order, HaveDistinctIds-permuted
 use Rattle.live_view.specs.declared.places.Put.{Put}
 use Rattle.live_view.specs.inner.Coming.{all_stored, part_with, part_of_ids, rekeyed, AreAround, ArePutBeside, HasGone, IsComing, IsGoing, IsPlaceFor}
 use Rattle.live_view.specs.inner.Putting.{puts_of, IsInPlace, IsWithin, all_put}
-use Rattle.live_view.specs.inner.Reached.{is_among, IsStartedBy, HaveReached, StaysKind}
+use Rattle.live_view.specs.inner.Reached.{IsStartedBy, HaveReached, StaysKind}
 use Rattle.live_view.specs.inner.Replacing.{element_after, HaveReplaced}
 use Rattle.live_view.specs.inner.Runs.{part_of, stored_keys, AreKeysWith, AreKeysWithout}
 use Rattle.live_view.proofs.Framed.{kinds-gone, kinds-replaced}

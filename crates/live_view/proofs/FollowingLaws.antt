@@ -11,7 +11,7 @@ use Rattle.std.proofs.lemmas.Slice.Eq.{bytes_eq-Decides}
 use Rattle.frac_keys.specs.Rising.{are_rising}
 use Rattle.elem.specs.ElementValue.{ElementValue}
 use Rattle.elem.specs.Order.{has_id, HaveDistinctIds}
-use Rattle.elem_store.specs.Updates.{element_of, ids_of, is_newer, is_taken, HasTaken}
+use Rattle.elem_store.specs.Updates.{element_of, ids_of, is_newer, is_taken, HasTaken, is_among}
 use Rattle.elem_store.proofs.CallerLemmas.{same_id, of_same, find-Some}
 use Rattle.elem_store.proofs.CallerLemmas as rows
 use Rattle.undoing.specs.Carrying.{taken, taken_all}
@@ -20,7 +20,6 @@ use Rattle.view.specs.Shown.{is_live, live_elements}
 use Rattle.view.proofs.CallerLemmas.{HaveDistinctIds-rising, live_elements-rise}
 use Rattle.live_view.specs.Changes.{AreSameButAt}
 use Rattle.live_view.specs.inner.Following.{followed, ArePicked, AreTaken, HaveFollowed}
-use Rattle.live_view.specs.inner.Reached.{is_among}
 use Rattle.live_view.specs.inner.Replacing.{element_after, HaveReplaced}
 use Rattle.live_view.proofs.Followed.{if_live, live-is, element-live}
 

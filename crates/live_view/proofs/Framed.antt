@@ -10,7 +10,7 @@ use Rattle.std.proofs.lemmas.Slice.Eq.{bytes_eq-Decides}
 use Rattle.frac_keys.specs.Rising.{are_rising}
 use Rattle.elem.specs.ElementValue.{ElementValue}
 use Rattle.elem.specs.Order.{has_id}
-use Rattle.elem_store.specs.Updates.{element_of, ids_of}
+use Rattle.elem_store.specs.Updates.{element_of, ids_of, is_among}
 use Rattle.elem_store.proofs.CallerLemmas.{same_id, find-Some, member}
 use Rattle.frames_groups.specs.Frames.{is_frame_kind, is_frame, is_frame_of, has_frame, keeps_frame}
 use Rattle.links.specs.Looks.{kind_at}
@@ -19,7 +19,7 @@ use Rattle.links.proofs.CallerLemmas.{list_any-found, list_any-from, list_any-ma
 use Rattle.view.specs.Shown.{in_scene_order, without_index}
 use Rattle.view.specs.Steps.{is_framed}
 use Rattle.view.proofs.CallerLemmas.{IsPermutation-in_scene_order}
-use Rattle.live_view.specs.inner.Reached.{is_among, HasNamers, StaysKind}
+use Rattle.live_view.specs.inner.Reached.{HasNamers, StaysKind}
 use Rattle.live_view.specs.inner.Replacing.{element_after}
 use Rattle.live_view.proofs.Stepping.{framed-named}
 

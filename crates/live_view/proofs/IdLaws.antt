@@ -9,7 +9,8 @@ use Rattle.std.proofs.lemmas.List.Folds.{list_any-append}
 use Rattle.std.proofs.lemmas.Map.Keys.{IsDistinct-push}
 use Rattle.std.proofs.lemmas.Slice.Eq.{bytes_eq-Decides}
 use Rattle.links.specs.Tables.{has_seen}
-use Rattle.live_view.specs.inner.Reached.{is_among, AreIds}
+use Rattle.elem_store.specs.Updates.{is_among}
+use Rattle.live_view.specs.inner.Reached.{AreIds}
 
 or-none : (a : Bool) → (a || false) ≡ a
 or-none true = refl

@@ -9,37 +9,24 @@ use Rattle.frac_keys.specs.Rising.{are_rising}
 use Rattle.index_repair.specs.Repair.{repaired}
 use Rattle.elem.specs.ElementValue.{ElementValue}
 use Rattle.elem.specs.Order.{has_id, HaveDistinctIds}
-use Rattle.elem_store.specs.Updates.{element_of, ids_of}
+use Rattle.elem_store.specs.Updates.{element_of, ids_of, is_among}
 use Rattle.elem_store.proofs.CallerLemmas.{find-Some, filter-Contains, Contains-filter, member}
 use Rattle.links.proofs.CallerLemmas.{map-map}
 use Rattle.view.specs.Settled.{settled, unsettled}
 use Rattle.index_repair.specs.Keyed.{index_of, keyed, HaveKeysOrNone}
 use Rattle.view.specs.Shown.{is_live, comes_before, in_scene_order, without_index, placed, shown, IsView}
 use Rattle.view.specs.Steps.{is_framed, settled_but_for_key, HasAllSeenFramed}
-use Rattle.view.proofs.CallerLemmas.{AllPairs-in_order, HaveDistinctIds-permuted, scene_order, IsPermutation-in_scene_order, distinct-settled, unsettled-settled, HaveDistinctIds-rising, placed-distinct, settled-keys, settled-looks, settled-seen}
-use Rattle.live_view.specs.inner.Reached.{is_among, AreStartedBy, AreSurrounded, HaveReached}
+use Rattle.view.proofs.CallerLemmas.{AllPairs-in_order, HaveDistinctIds-permuted, scene_order, IsPermutation-in_scene_order, distinct-settled, unsettled-settled, HaveDistinctIds-rising, placed-distinct, settled-keys, settled-looks, settled-seen, others-keyed, indices-keyed, ids_of-keyed}
+use Rattle.live_view.specs.inner.Reached.{AreStartedBy, AreSurrounded, HaveReached}
 use Rattle.live_view.proofs.ByIds.{same-by_ids}
 use Rattle.live_view.proofs.Framed.{AreKindsKept, framed-alike}
 use Rattle.live_view.proofs.Picked.{picked-in_order, same-in_order}
-use Rattle.live_view.proofs.PlacedLaws.{keys-count, others-keyed}
+use Rattle.live_view.proofs.PlacedLaws.{keys-count}
 use Rattle.live_view.proofs.ReachedLaws.{IsOneOf, AreOf, keyless-filter, placed-far, started-near, surrounded-near}
 use Rattle.live_view.proofs.ShownAfter.{element-filter, index-by_ids, one-of-same}
 use Rattle.live_view.proofs.Untouched.{element-map, same_option, index-settled}
 
 -- elements with keys
-ids-keyed : (es : List ElementValue) (keys : List (List ℕ)) → length keys ≡ length es
-    → ids_of (keyed es keys) ≡ ids_of es
-ids-keyed [] keys h = refl
-ids-keyed (e ∷ es) [] h = absurd (omega arith)
-ids-keyed (e ∷ es) (key ∷ keys) h = ap (λ ids. e.id ∷ ids) (ids-keyed es keys (omega arith))
-
-indices-keyed : (es : List ElementValue) (keys : List (List ℕ)) → length keys ≡ length es
-    → map index_of (keyed es keys) ≡ map Some keys
-indices-keyed [] [] h = refl
-indices-keyed [] (key ∷ keys) h = absurd (omega arith)
-indices-keyed (e ∷ es) [] h = absurd (omega arith)
-indices-keyed (e ∷ es) (key ∷ keys) h = ap (λ indices. Some key ∷ indices) (indices-keyed es keys (omega arith))
-
 pub keyless : (es : List ElementValue) (id : List ℕ) → option_map without_index (element_of es id)
     ≡ element_of (map without_index es) id
 keyless es id = sym (element-map without_index (λ e. refl) es id)
@@ -58,7 +45,7 @@ module _ (live : List ElementValue) (keys : HaveKeysOrNone live) where
   others-placed = ap (map without_index) placed-is ∙ others-keyed (in_scene_order live) _ (keys-count live keys)
 
   pub ids-placed : ids_of (placed live) ≡ ids_of (in_scene_order live)
-  ids-placed = ap ids_of placed-is ∙ ids-keyed (in_scene_order live) _ (keys-count live keys)
+  ids-placed = ap ids_of placed-is ∙ ids_of-keyed (in_scene_order live) _ (keys-count live keys)
 
   pub indices-placed : map index_of (placed live) ≡ map Some (repaired (map index_of (in_scene_order live)))
   indices-placed = ap (map index_of) placed-is ∙ indices-keyed (in_scene_order live) _ (keys-count live keys)

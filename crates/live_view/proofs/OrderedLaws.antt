@@ -10,7 +10,7 @@ use Rattle.std.proofs.lemmas.Bool.{cases_Bool, cond_both, cond-true, cond-false,
 use Rattle.std.proofs.lemmas.Slice.Eq.{bytes_eq-Decides}
 use Rattle.frac_keys.specs.Keys.{bytes_less}
 use Rattle.frac_keys.specs.Rising.{ends_rise, rise_between, are_rising}
-use Rattle.frac_keys.proofs.CallerLemmas.{rise_between-ends}
+use Rattle.frac_keys.proofs.CallerLemmas.{rise_between-filter}
 use Rattle.std.proofs.lemmas.List.Elements.{Contains-get_or, filter-append}
 use Rattle.std.proofs.lemmas.List.Sorted.{IsPermutation-refl, IsPermutation-sym, IsPermutation-trans, IsPermutation-middle, IsPermutation-cons, Contains-permutation}
 use Rattle.elem.specs.ElementValue.{ElementValue}
@@ -19,6 +19,7 @@ use Rattle.elem_store.specs.Updates.{element_of, ids_of}
 use Rattle.elem_store.proofs.CallerLemmas.{same_id, of_itself, Contains-head, Contains-cons, member}
 use Rattle.view.specs.Shown.{as_stored, comes_before, with_element, in_scene_order, AreInSceneOrder, IsView}
 use Rattle.view.proofs.CallerLemmas.{in_order-permuted, HaveDistinctIds-permuted, place_cmp, place_cmp-total, comes_before-cmp, scene_order, IsPermutation-in_scene_order, shown-is, HaveDistinctIds-rising}
+use Rattle.json_text.proofs.CallerLemmas.{bytes_eq-flip}
 use Rattle.live_view.specs.inner.Coming.{all_stored, IsPlaceFor}
 
 -- ---- before, and behind
@@ -121,10 +122,6 @@ removed-moved (y ∷ xs) (suc i) x l is =
 abbrev pub others_than : List ℕ → List ElementValue → List ElementValue
 others_than id es = filter (λ (e : ElementValue). not (bytes_eq id e.id)) es
 
-turned : (a b : List ℕ) → bytes_eq a b ≡ false → bytes_eq b a ≡ false
-turned a b h = false_from_ne_true (bytes_eq b a)
-    (λ is. both_ways (bytes_eq a b) h ((bytes_eq-Decides a b).1 (sym ((bytes_eq-Decides b a).0 is))))
-
 pub others-apart : (id : List ℕ) (es : List ElementValue)
     → ((e : ElementValue) → Contains es e → bytes_eq id e.id ≡ false) → others_than id es ≡ es
 others-apart id [] apart = refl
@@ -151,30 +148,11 @@ others-removed (x ∷ es) zero e apart l is =
     let own : bytes_eq e.id x.id ≡ true = ap (λ (y : ElementValue). bytes_eq e.id y.id) is ∙ of_itself e in
     rw own (ap (λ (y : ElementValue). others_than y.id es) (sym is) ∙ apart-of x.id es apart.0)
 others-removed (x ∷ es) (suc i) e apart l is =
-    let other : bytes_eq e.id x.id ≡ false = turned x.id e.id (apart-at x.id es i e apart.0 (omega arith) is) in
+    let other : bytes_eq e.id x.id ≡ false = bytes_eq-flip x.id e.id (apart-at x.id es i e apart.0 (omega arith) is) in
     rw other (ap (λ xs. x ∷ xs) (others-removed es i e apart.1 (omega arith) is))
 
 -- ---- ids that rise
-rise-lower : (low : Option (List ℕ)) (key : List ℕ) (keys : List (List ℕ)) → ends_rise low (Some key) ≡ true
-    → rise_between (Some key) None keys ≡ true → rise_between low None keys ≡ true
-rise-lower None key [] h l = refl
-rise-lower (Some low) key [] h l = refl
-rise-lower low key (next ∷ keys) h l =
-    let p = and_parts (bytes_less key next) (rise_between (Some next) None keys) l in
-    let first = rise_between-ends low (Some next) (key ∷ [])
-    (and_from (ends_rise low (Some key)) (bytes_less key next) h p.0) in
-    and_from (ends_rise low (Some next)) (rise_between (Some next) None keys) first p.1
-
-filter-rises : (low : Option (List ℕ)) (p : ElementValue → Bool) (es : List ElementValue)
-    → rise_between low None (ids_of es) ≡ true → rise_between low None (ids_of (filter p es)) ≡ true
-filter-rises low p [] h = h
-filter-rises low p (e ∷ es) h =
-    let both = and_parts (ends_rise low (Some e.id)) (rise_between (Some e.id) None (ids_of es)) h in
-    cond_both (p e) (e ∷ filter p es) (filter p es) (λ kept. rise_between low None (ids_of kept) ≡ true)
-    (λ _. and_from (ends_rise low (Some e.id)) (rise_between (Some e.id) None (ids_of (filter p es))) both.0
-    (filter-rises (Some e.id) p es both.1))
-    (λ _. filter-rises low p es (rise-lower low e.id (ids_of es) both.0 both.1))
-
 pub others-rise : (id : List ℕ) (es : List ElementValue) → are_rising (ids_of es) ≡ true
     → are_rising (ids_of (others_than id es)) ≡ true
-others-rise id es h = filter-rises None (λ (e : ElementValue). not (bytes_eq id e.id)) es h
+others-rise id es h =
+    rise_between-filter (λ (e : ElementValue). e.id) (λ (e : ElementValue). not (bytes_eq id e.id)) None es h

@@ -16,13 +16,14 @@ use Rattle.std.proofs.lemmas.Slice.Eq.{bytes_eq-Decides}
 use Rattle.frac_keys.specs.Rising.{are_rising}
 use Rattle.elem.specs.ElementValue.{ElementValue}
 use Rattle.elem.specs.Order.{has_id, HaveDistinctIds}
-use Rattle.elem_store.specs.Updates.{element_of, ids_of}
+use Rattle.elem_store.specs.Updates.{element_of, ids_of, is_among}
 use Rattle.elem_store.proofs.CallerLemmas.{same_id, Contains-head, Contains-cons, Contains-cases, Contains-filter, find-Some, member}
 use Rattle.index_repair.specs.Keyed.{index_of}
 use Rattle.view.specs.Shown.{comes_before, place_less, in_scene_order, AreInSceneOrder}
 use Rattle.view.proofs.CallerLemmas.{AllPairs-in_order, HaveDistinctIds-permuted, same_sorted, place_cmp, place_cmp-total, comes_before-cmp, scene_order, IsPermutation-in_scene_order, HaveDistinctIds-rising}
 use Rattle.std.specs.Option.{option_or}
-use Rattle.live_view.specs.inner.Reached.{is_among}
+use Rattle.std.proofs.lemmas.Map.Views.{Contains-from_any}
+use Rattle.json_text.proofs.CallerLemmas.{bytes_eq-true}
 use Rattle.live_view.specs.inner.Replacing.{element_after}
 
 -- ---- what is found for some ids
@@ -59,13 +60,6 @@ picked-to g (i ∷ ids) id z c is = elim (Contains-cases i ids id c) [
   | inl same ↦ subst (λ o. Contains (cons_option o (filter_map g ids)) z) (sym (ap g same ∙ is))
       (Contains-head z (filter_map g ids))
   | inr more ↦ to-later (g i) (filter_map g ids) z (picked-to g ids id z more is)
-]
-
-among-from : (ids : List (List ℕ)) (id : List ℕ) → is_among ids id ≡ true → Contains ids id
-among-from [] id h = cc
-among-from (i ∷ ids) id h = elim (or_cases (bytes_eq id i) (is_among ids id) h) [
-  | inl is ↦ subst (Contains (i ∷ ids)) (sym ((bytes_eq-Decides id i).0 is)) (Contains-head i ids)
-  | inr more ↦ Contains-cons i ids id (among-from ids id more)
 ]
 
 among-to : (ids : List (List ℕ)) (id : List ℕ) → Contains ids id → is_among ids id ≡ true
@@ -178,7 +172,7 @@ picked-in_order elements ids rising apart =
     let there =
     Contains-permutation _ elements z (IsPermutation-sym _ _ (IsPermutation-in_scene_order elements)) both.0 in
     Contains-permutation picked _ z (IsPermutation-in_scene_order picked)
-    (picked-to (element_of elements) ids z.id z (among-from ids z.id both.1)
+    (picked-to (element_of elements) ids z.id z (Contains-from_any bytes_eq-true z.id ids both.1)
     (member None None elements z rising there)))
   where
     in-filter : (p : ElementValue → Bool) (xs : List ElementValue) (z : ElementValue) → Contains (filter p xs) z

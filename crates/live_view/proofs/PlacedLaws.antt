@@ -15,7 +15,7 @@ use Rattle.view.specs.Settled.{unsettled, settled}
 use Rattle.elem.specs.Order.{HaveDistinctIds}
 use Rattle.index_repair.specs.Keyed.{index_of, keyed, HaveKeysOrNone}
 use Rattle.view.specs.Shown.{in_scene_order, placed, shown, bare, without_index}
-use Rattle.view.proofs.CallerLemmas.{IsPermutation-in_scene_order, map-less, unsettled-settled, shown-is}
+use Rattle.view.proofs.CallerLemmas.{IsPermutation-in_scene_order, map-less, unsettled-settled, shown-is, others-keyed}
 
 pub shown-distinct : (live : List ElementValue) → HaveDistinctIds live → HaveKeysOrNone live
     → HaveDistinctIds (shown live)
@@ -33,12 +33,6 @@ keys-count live h =
     (All-permutation (λ x. is_key_or_none x ≡ true) (map index_of live) (map index_of ordered) moved
     (AllPass-from_list_all is_key_or_none (map index_of live) h)) in
     (repaired-law (map index_of ordered) keys).count ∙ length-map ordered index_of
-
-pub others-keyed : (es : List ElementValue) (keys : List (List ℕ)) → length keys ≡ length es
-    → map without_index (keyed es keys) ≡ map without_index es
-others-keyed [] keys h = refl
-others-keyed (e ∷ es) [] h = absurd (omega arith)
-others-keyed (e ∷ es) (key ∷ keys) h = ap (λ others. without_index e ∷ others) (others-keyed es keys (omega arith))
 
 -- what is shown of a live element is that element but for what settling and repair change
 pub bare-shown : (live : List ElementValue) → HaveKeysOrNone live

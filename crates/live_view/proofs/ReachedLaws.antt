@@ -9,7 +9,7 @@ use Rattle.std.proofs.lemmas.List.Sorted.{Contains-permutation, IsPermutation-sy
 use Rattle.frac_keys.specs.Rising.{are_rising}
 use Rattle.elem.specs.ElementValue.{ElementValue}
 use Rattle.elem.specs.Order.{has_id, HaveDistinctIds}
-use Rattle.elem_store.specs.Updates.{element_of, ids_of}
+use Rattle.elem_store.specs.Updates.{element_of, ids_of, is_among}
 use Rattle.elem_store.proofs.CallerLemmas.{find-Some, member, same_id}
 use Rattle.links.specs.Looks.{kind_at, ends_at, HaveItsContainer, HaveOneTarget, HasItsContainer, LookAlike}
 use Rattle.links.specs.Names.{id_of, is_id, is_text, names_container, has_end_at}
@@ -18,7 +18,7 @@ use Rattle.links.proofs.CallerLemmas.{Contains-map, container-named, end-named, 
 use Rattle.view.specs.Shown.{in_scene_order, without_index}
 use Rattle.view.specs.Steps.{HasAllSeenFramed}
 use Rattle.view.proofs.CallerLemmas.{HaveDistinctIds-permuted, HaveDistinctIds-rising, IsPermutation-in_scene_order}
-use Rattle.live_view.specs.inner.Reached.{is_among, is_text_or_to, is_to_text, AreSurrounded, HaveReached, IsStartedBy, AreStartedBy}
+use Rattle.live_view.specs.inner.Reached.{is_text_or_to, is_to_text, AreSurrounded, HaveReached, IsStartedBy, AreStartedBy}
 use Rattle.live_view.proofs.Framed.{AreKindsKept}
 
 -- each element of a list is one of others, but for its key

@@ -8,14 +8,13 @@ use Rattle.std.proofs.lemmas.List.{take_more}
 use Rattle.std.proofs.lemmas.List.Folds.{list_any-append}
 use Rattle.elem.specs.ElementValue.{ElementValue}
 use Rattle.elem.specs.Order.{has_id, HaveDistinctIds}
-use Rattle.elem_store.specs.Updates.{element_of, ids_of}
+use Rattle.elem_store.specs.Updates.{element_of, ids_of, is_among}
 use Rattle.elem_store.proofs.CallerLemmas.{same_id, find-Some, is_some-find}
 use Rattle.links.specs.declared.rows.LinkRow.{LinkRow}
 use Rattle.links.specs.Rows.{has_row, same_row, is_for, row_of, rows_of}
 use Rattle.links.specs.Steps.{names_id}
 use Rattle.links.proofs.CallerLemmas.{rows_of-named, list_any-map}
 use Rattle.live_view.specs.inner.Coming.{HasGone}
-use Rattle.live_view.specs.inner.Reached.{is_among}
 use Rattle.view.specs.Kept.{HaveRowsOf}
 use Rattle.live_view.specs.inner.Replacing.{names_as, AreRowsOfAll, HaveReplaced}
 

@@ -10,7 +10,7 @@ use Rattle.frac_keys.specs.Keys.{is_key, bytes_less}
 use Rattle.frac_keys.specs.Rising.{is_key_or_none}
 use Rattle.frac_keys.specs.Between.{keys_between}
 use Rattle.index_repair.specs.Repair.{repaired, repaired_below, filled, kept, are_below, is_below, is_up_to, NeverFall}
-use Rattle.index_repair.proofs.CallerLemmas.{none_between, repaired_below-law, all-below, repaired-cut}
+use Rattle.index_repair.proofs.CallerLemmas.{none_between, repaired_below-law, all-below, repaired-cut, under-last}
 use Rattle.live_view.specs.inner.Runs.{first_of, last_of, key_rises, is_cut}
 
 pub none-repaired : (above : Option (List ℕ)) → repaired_below above [] ≡ []
@@ -39,13 +39,6 @@ part-repaired before part after cut next =
 -- ---- where keys never fall, a key that rises is above all before it
 less-order : IsStrictWeakOrder bytes_less
 less-order = ranks_by nat_list_cmp_total (λ a. a)
-
-under-last : (x : Option (List ℕ)) (last key : List ℕ) → is_up_to x (Some last) ≡ true → bytes_less last key ≡ true
-    → is_below (Some key) x ≡ true
-under-last None last key up less = cc
-under-last (Some a) last key up less =
-    true_from_ne_false (bytes_less a key)
-    (λ no. both_ways (bytes_less last key) (less-order.chain last a key (not-true (bytes_less last a) up) no) less)
 
 pub rises-below : (keys : List (Option (List ℕ))) (key : List ℕ) → NeverFall keys
     → key_rises (last_of keys) (Some key) ≡ true → are_below (Some key) keys ≡ true

@@ -12,22 +12,22 @@ use Rattle.frac_keys.specs.Rising.{are_rising, is_key_or_none}
 use Rattle.index_repair.specs.Repair.{repaired}
 use Rattle.elem.specs.ElementValue.{ElementValue}
 use Rattle.elem.specs.Order.{has_id, HaveDistinctIds}
-use Rattle.elem_store.specs.Updates.{element_of, ids_of}
+use Rattle.elem_store.specs.Updates.{element_of, ids_of, is_among}
 use Rattle.elem_store.proofs.CallerLemmas.{same_id, find-Some, Contains-head, Contains-cons, Contains-cases}
 use Rattle.links.proofs.CallerLemmas.{Contains-map, distinct-among, map-map}
 use Rattle.view.specs.Settled.{settled, unsettled}
 use Rattle.index_repair.specs.Keyed.{index_of, with_index, keyed, HaveKeysOrNone}
 use Rattle.view.specs.Shown.{is_live, in_scene_order, without_index, placed, shown, as_stored, IsView}
 use Rattle.view.specs.Steps.{is_framed, settled_of, settled_but_for_key, HasAllSeenFramed}
-use Rattle.view.proofs.CallerLemmas.{AllPairs-in_order, HaveDistinctIds-permuted, in_order-only, scene_order, IsPermutation-in_scene_order, distinct-settled, unsettled-settled, HaveDistinctIds-rising, placed-distinct, settled-keys, settled-looks, settled-seen}
+use Rattle.view.proofs.CallerLemmas.{AllPairs-in_order, HaveDistinctIds-permuted, in_order-only, scene_order, IsPermutation-in_scene_order, distinct-settled, unsettled-settled, HaveDistinctIds-rising, placed-distinct, settled-keys, settled-looks, settled-seen, others-keyed}
 use Rattle.live_view.specs.declared.places.Put.{Put}
 use Rattle.live_view.specs.inner.Putting.{puts_of, IsInPlace, all_put}
-use Rattle.live_view.specs.inner.Reached.{is_among, AreStartedBy, IsStartedBy}
+use Rattle.live_view.specs.inner.Reached.{AreStartedBy, IsStartedBy}
 use Rattle.live_view.specs.inner.Replacing.{element_after, AreRepairs, HaveReplaced}
 use Rattle.live_view.proofs.ByIds.{same-by_ids}
 use Rattle.live_view.proofs.Framed.{AreKindsKept, framed-alike, kinds-replaced}
 use Rattle.live_view.proofs.Picked.{pairs-alike, picked-in_order}
-use Rattle.live_view.proofs.PlacedLaws.{keys-count, others-keyed, shown-distinct}
+use Rattle.live_view.proofs.PlacedLaws.{keys-count, shown-distinct}
 use Rattle.live_view.proofs.PuttingLaws.{ids-all_put, indices-all_put, element-all_put}
 use Rattle.live_view.proofs.ReachedLaws.{IsOneOf, AreOf, placed-far, started-near, surrounded-near}
 use Rattle.live_view.proofs.Untouched.{element-map, same_option, index-settled, all-shown}

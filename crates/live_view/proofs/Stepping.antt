@@ -8,14 +8,13 @@ use Rattle.std.proofs.lemmas.List.Folds.{list_any-append}
 use Rattle.std.proofs.lemmas.Slice.Eq.{bytes_eq-Decides}
 use Rattle.frac_keys.specs.Rising.{are_rising}
 use Rattle.elem.specs.ElementValue.{ElementValue}
-use Rattle.elem_store.specs.Updates.{element_of, ids_of}
-use Rattle.elem_store.proofs.CallerLemmas.{member}
+use Rattle.elem_store.specs.Updates.{element_of, ids_of, is_among}
 use Rattle.links.specs.declared.rows.LinkRow.{LinkRow}
 use Rattle.links.specs.Rows.{is_for, namer_of}
 use Rattle.links.specs.Names.{is_id, end_names}
 use Rattle.links.specs.Steps.{links_to, names_id}
-use Rattle.links.proofs.CallerLemmas.{list_any-map, list_any-filter}
-use Rattle.live_view.specs.inner.Reached.{is_among, HaveFrames, HaveLinked, HaveNamers, HasNamers, IsStartedBy, AreStartedBy, StaysKind}
+use Rattle.view.proofs.CallerLemmas.{namer-among}
+use Rattle.live_view.specs.inner.Reached.{HaveFrames, HaveLinked, HaveNamers, HasNamers, IsStartedBy, AreStartedBy, StaysKind}
 use Rattle.view.specs.Kept.{HaveRowsOf}
 
 -- ---- from one id
@@ -40,14 +39,6 @@ framed-named id e h =
     (or_right (is_id id e.container) (is_id id e.frame) (ap (is_id id) h ∙ (bytes_eq-Decides id id).1 refl))
 
 -- all that name an id are among the namers of its rows
-namer-among : (live : List ElementValue) (rows : List LinkRow) (id : List ℕ) (e : ElementValue)
-    → are_rising (ids_of live) ≡ true → HaveRowsOf live rows
-    → Contains live e → names_id id e ≡ true → is_among (map namer_of (filter (is_for id) rows)) e.id ≡ true
-namer-among live rows id e rising have c names =
-    list_any-map namer_of (bytes_eq e.id) (filter (is_for id) rows)
-    ∙ list_any-filter (is_for id) (λ (row : LinkRow). bytes_eq e.id row.namer) rows
-    ∙ have id e.id ∙ ap (λ o. option_map_or (names_id id) o false) (member None None live e rising c) ∙ names
-
 pub linking-among : (live : List ElementValue) (rows : List LinkRow) (id : List ℕ) (e : ElementValue)
     → are_rising (ids_of live) ≡ true → HaveRowsOf live rows
     → Contains live e → links_to id e ≡ true → is_among (map namer_of (filter (is_for id) rows)) e.id ≡ true

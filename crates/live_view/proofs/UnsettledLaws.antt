@@ -16,7 +16,7 @@ use Rattle.std.proofs.lemmas.Slice.Eq.{bytes_eq-Decides}
 use Rattle.elem.specs.ElementValue.{ElementValue}
 use Rattle.elem.specs.Order.{has_id, HaveDistinctIds}
 use Rattle.elem_store.specs.Places.{IsAt}
-use Rattle.elem_store.specs.Updates.{element_of, ids_of}
+use Rattle.elem_store.specs.Updates.{element_of, ids_of, is_among}
 use Rattle.elem_store.proofs.CallerLemmas.{same_id, of_itself, find-Some, is_some-find}
 use Rattle.view.specs.Kept.{AreOthersAsStored}
 use Rattle.view.specs.Shown.{shown, IsView}
@@ -27,7 +27,6 @@ use Rattle.live_view.specs.inner.Coming.{part_with, rekeyed, HasGone, IsComing, 
 use Rattle.live_view.specs.inner.Runs.{stored_keys, AreKeysWith, AreKeysWithout}
 use Rattle.live_view.specs.inner.Unsettled.{put_ids, run_ids, touched_ids, HasNoted, StillHas}
 use Rattle.live_view.specs.inner.Putting.{puts_of, IsInPlace, all_put}
-use Rattle.live_view.specs.inner.Reached.{is_among}
 use Rattle.live_view.specs.inner.Replacing.{AreRepairs, HaveReplaced}
 use Rattle.live_view.proofs.IdLaws.{others-of}
 use Rattle.live_view.proofs.OrderedLaws.{map-insert, map-remove}

@@ -3,7 +3,8 @@
 ghost use Rattle.std.specs.Prelude.{◌≡◌, ℕ, List as Items, [], ◌||◌, not, bytes_eq, OnOk, IfOk};
 ghost use Rattle.links.specs.Tables.{has_seen};
 ghost use Rattle.live_view.specs.inner.Coming.{AreOthers};
-ghost use Rattle.live_view.specs.inner.Reached.{is_among, AreIds};
+ghost use Rattle.elem_store.specs.Updates.{is_among};
+ghost use Rattle.live_view.specs.inner.Reached.{AreIds};
 
 use json_text::Text;
 use std::alloc::{AllocError, Global};

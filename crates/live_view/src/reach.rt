@@ -4,12 +4,12 @@ ghost use Rattle.std.specs.Prelude.{◌≡◌, ℕ, List as Items, not, ◌||◌
 ghost use Rattle.frac_keys.specs.Rising.{are_rising};
 ghost use Rattle.elem.specs.ElementValue.{ElementValue};
 ghost use Rattle.elem_store.specs.Updates as updates;
-ghost use Rattle.elem_store.specs.Updates.{ids_of};
+ghost use Rattle.elem_store.specs.Updates.{ids_of, is_among};
 ghost use Rattle.links.specs.Looks.{kind_at};
 ghost use Rattle.links.specs.Names as names;
 ghost use Rattle.links.specs.Names.{is_id};
 ghost use Rattle.links.specs.Steps as steps;
-ghost use Rattle.live_view.specs.inner.Reached.{is_among, is_text_or_to, is_text_there, is_to_text, AreIds, AreStartedBy, AreSurrounded, HasNamers, HaveFrames, HaveLinked, HaveNamers, HaveReached, StaysKind};
+ghost use Rattle.live_view.specs.inner.Reached.{is_text_or_to, is_text_there, is_to_text, AreIds, AreStartedBy, AreSurrounded, HasNamers, HaveFrames, HaveLinked, HaveNamers, HaveReached, StaysKind};
 ghost use Rattle.view.specs.Kept.{HaveRowsOf};
 
 use crate::ids::Ids;

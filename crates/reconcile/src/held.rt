@@ -1,7 +1,8 @@
 //! Ids that are held.
 
 ghost use Rattle.std.specs.Prelude.{◌≡◌, [], OnOk, OnErr, IsOk, IsTrue};
-ghost use Rattle.reconcile.specs.Ids.{is_held, AreStrictlySorted, HasAdded, HasDropped};
+ghost use Rattle.elem_store.specs.Updates.{is_among};
+ghost use Rattle.reconcile.specs.Ids.{AreStrictlySorted, HasAdded, HasDropped};
 
 use json_text::Text;
 use std::alloc::{AllocError, Global};
@@ -40,7 +41,7 @@ impl Held {
     pub fn add(&mut self, id: &Text) -> Result<(), AllocError>
         ensures added { OnOk result (HasAdded self.old id.now self.new) }
         ensures err { OnErr result (self.new ≡ self.old) }
-        ensures known { IsTrue (is_held self.old id.now) → IsOk result }
+        ensures known { IsTrue (is_among self.old id.now) → IsOk result }
     {
         if self.has(id) {
             return Ok(());
@@ -58,7 +59,7 @@ impl Held {
 
     /// Whether the id is held. It takes no memory.
     pub fn has(&self, id: &Text) -> bool
-        ensures exact { result ≡ is_held self.now id.now }
+        ensures exact { result ≡ is_among self.now id.now }
         ensures ordered { AreStrictlySorted self.now }
     {
         self.ids.contains(id)

@@ -17,6 +17,7 @@ use Rattle.undoing.specs.Carrying.{taken_all}
 use Rattle.undoing.specs.Differing.{same_kind, differ, is_changed, pending}
 use Rattle.undoing.specs.Steps.{step}
 use Rattle.undoing.proofs.CallerLemmas.{differ-same, taken_all-rising}
+use Rattle.links.proofs.CallerLemmas.{filter-none_of}
 use Rattle.replica.specs.Back.{AgreesWith, IsAs, HasNothingPending, IsCaptured, IsStoredChange, changed, changed_all, AreChanges, Call, IsDone, undone_all, redone_all, AreUndos, AreRedos}
 use Rattle.replica.specs.Sound.{IsSoundState}
 use Rattle.replica.specs.State.{State, noted, stored_with, undo_on, redo_on, after_turn_of, after_undo, after_redo}
@@ -25,15 +26,10 @@ use Rattle.replica.proofs.Changing.{pending-meets, none-agrees, leads-stored, ne
 use Rattle.replica.proofs.Ways.{IsWay, way-stepped, way-found}
 
 -- ---- where nothing is pending, a capture leaves the stacks
-filter-none : {X : Type 0} (p : X → Bool) (xs : List X) → ((x : X) → Contains xs x → p x ≡ false) → filter p xs ≡ []
-filter-none p [] none = refl
-filter-none p (x ∷ xs) none =
-    cond-false (p x) (x ∷ filter p xs) (filter p xs) (none x (Contains-head x xs))
-    ∙ filter-none p xs (λ y c. none y (Contains-cons x xs y c))
-
 pending-none : (snapshot stored : List ElementValue) → are_rising (ids_of stored) ≡ true → AgreesWith snapshot stored
     → pending snapshot stored ≡ []
-pending-none snapshot stored rise agrees = filter-none is_changed (pairs_from (element_of snapshot) stored) (λ pair c.
+pending-none snapshot stored rise agrees =
+    filter-none_of is_changed (pairs_from (element_of snapshot) stored) (λ pair c.
     let of = Contains-map (λ (e : ElementValue). pair_with (element_of snapshot e.id) e) stored pair c in
     let was : ElementValue = counted (element_of snapshot of.0.id) of.0 in
     subst (λ p. is_changed p ≡ false) of.2

@@ -8,7 +8,8 @@ use Rattle.elem_store.specs.Updates.{element_of, ids_of, is_newer, is_taken}
 use Rattle.elem_store.proofs.CallerLemmas.{of_itself, of_other, Contains-head, Contains-cons, Contains-cases, less-other}
 use Rattle.delta.proofs.CallerLemmas.{later_greater}
 use Rattle.undoing.specs.Carrying.{taken, taken_all}
-use Rattle.undoing.proofs.CallerLemmas.{rise-lower, taken-has}
+use Rattle.undoing.proofs.CallerLemmas.{taken-has}
+use Rattle.frac_keys.proofs.CallerLemmas.{rise_between-lower}
 
 -- the others stay
 one-else : (stored : List ElementValue) (e : ElementValue) (id : List ℕ) → are_rising (ids_of stored) ≡ true
@@ -33,7 +34,7 @@ behind e list x rise c same = less-other e.id x.id (later_greater (λ (x : Eleme
 rest-rising : (e : ElementValue) (list : List ElementValue) → are_rising (ids_of (e ∷ list)) ≡ true
     → are_rising (ids_of list) ≡ true
 rest-rising e list rise =
-    rise-lower None e.id (ids_of list) refl
+    rise_between-lower None e.id (ids_of list) refl
     (and_parts (ends_rise None (Some e.id)) (rise_between (Some e.id) None (ids_of list)) rise).1
 
 -- each that is taken is stored

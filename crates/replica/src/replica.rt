@@ -5,7 +5,8 @@ ghost use Rattle.view.specs.Shown.{live_elements, shown};
 ghost use Rattle.effects.specs.Changed.{OnFault, outcome};
 ghost use Rattle.board_commands.specs.Limits.{IsWithinLimits};
 ghost use Rattle.history.specs.Stacks.{OnFull};
-ghost use Rattle.reconcile.specs.Ids.{free_elements, is_held, HasAdded, HasDropped};
+ghost use Rattle.elem_store.specs.Updates.{is_among};
+ghost use Rattle.reconcile.specs.Ids.{free_elements, HasAdded, HasDropped};
 ghost use Rattle.replica.specs.Boards.{IsPlanOf, IsPlannedStep};
 ghost use Rattle.replica.specs.Standing.{ReplicaStandsFor};
 ghost use Rattle.replica.specs.State as state;
@@ -152,7 +153,7 @@ impl Replica {
     pub fn hold(&mut self, id: &Text) -> Result<(), AllocError>
         ensures held { OnOk result (HasAdded self.old.held id.now self.new.held) }
         ensures kept { OnOk result (self.new ≡ record self.old { held = self.new.held }) }
-        ensures known { IsTrue (is_held self.old.held id.now) → IsOk result }
+        ensures known { IsTrue (is_among self.old.held id.now) → IsOk result }
         ensures err { OnErr result (self.new ≡ self.old) }
     {
         self.held.add(id)

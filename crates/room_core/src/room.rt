@@ -94,11 +94,12 @@ impl Room {
         remove_links(&mut self.joined, gone);
     }
 
-    /// The stored elements. It takes no memory. That their ids rise, a call of the store tells.
+    /// The stored elements. It takes no memory.
     pub fn store(&self) -> &Store
         ensures elements { result.now.elements ≡ self.now.state.elements }
         ensures rising { are_rising (ids_of self.now.state.elements) ≡ true }
     {
+        // That the ids rise, a call of the store tells.
         let _count = self.store.len();
         &self.store
     }

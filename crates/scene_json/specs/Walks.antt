@@ -33,7 +33,7 @@ pub record AreBehind (walk : Walk) (members : List Pair) : Type 0 where
   pub rest : List ℕ
   pub left : Leaves walk items (behind_item object rest (map member_text members))
 
--- The item is an object with these members, or none.
+-- The item is an object with these members, or is no object.
 abbrev pub IsTakenApart : List ℕ → Item → Type 0
 IsTakenApart item Other = (members : List Pair) → item ≢ object_text members
 IsTakenApart item (Object members) =

@@ -11,7 +11,8 @@ use Rattle.frac_keys.specs.Keys.{bytes_less}
 use Rattle.frac_keys.proofs.CallerLemmas.{bytes_less-trans, bytes_less-turned}
 use Rattle.elem.proofs.CallerLemmas.{AllByRecursion-weaker}
 use Rattle.delta.proofs.CallerLemmas.{each-put}
-use Rattle.reconcile.specs.Ids.{is_held, AreStrictlySorted, HasAdded, HasDropped}
+use Rattle.elem_store.specs.Updates.{is_among}
+use Rattle.reconcile.specs.Ids.{AreStrictlySorted, HasAdded, HasDropped}
 use Rattle.reconcile.proofs.CallerLemmas.{held-unique}
 use Rattle.session.specs.Worlds.{with_id, without_id}
 
@@ -66,18 +67,18 @@ or-same false true c e = ap (λ d. d || c) e
 or-same false false c e = refl
 
 held-more : (id : List ℕ) (ids : List (List ℕ)) (q : List ℕ)
-    → is_held (with_id id ids) q ≡ (bytes_eq q id || is_held ids q)
+    → is_among (with_id id ids) q ≡ (bytes_eq q id || is_among ids q)
 held-more id [] q = refl
 held-more id (other ∷ ids) q =
-    elim (bytes_less other id) as (λ b. is_held (if b then other
+    elim (bytes_less other id) as (λ b. is_among (if b then other
     ∷ with_id id ids else (if bytes_eq id other then id ∷ ids else id ∷ other ∷ ids)) q
-    ≡ (bytes_eq q id || (bytes_eq q other || is_held ids q))) [
+    ≡ (bytes_eq q id || (bytes_eq q other || is_among ids q))) [
       | true ↦ ap (λ b. bytes_eq q other || b) (held-more id ids q)
-          ∙ or-turned (bytes_eq q other) (bytes_eq q id) (is_held ids q)
+          ∙ or-turned (bytes_eq q other) (bytes_eq q id) (is_among ids q)
       | false ↦
-          elim (bytes_eq id other) as (λ b. bytes_eq id other ≡ b → is_held (if b then id ∷ ids else id ∷ other ∷ ids) q
-          ≡ (bytes_eq q id || (bytes_eq q other || is_held ids q))) [
-            | true ↦ λ same. or-same (bytes_eq q id) (bytes_eq q other) (is_held ids q)
+          elim (bytes_eq id other) as (λ b. bytes_eq id other ≡ b
+          → is_among (if b then id ∷ ids else id ∷ other ∷ ids) q ≡ (bytes_eq q id || (bytes_eq q other || is_among ids q))) [
+            | true ↦ λ same. or-same (bytes_eq q id) (bytes_eq q other) (is_among ids q)
                 (ap (bytes_eq q) (bytes_eq-true id other same))
             | false ↦ λ apart. refl
           ] refl
@@ -90,7 +91,7 @@ added-is old id new rise added = held-unique new (with_id id old) added.ordered 
 
 -- ---- one fewer
 held-fewer : (id : List ℕ) (ids : List (List ℕ)) (q : List ℕ)
-    → is_held (without_id id ids) q ≡ (not (bytes_eq q id) && is_held ids q)
+    → is_among (without_id id ids) q ≡ (not (bytes_eq q id) && is_among ids q)
 held-fewer id ids q =
     any-filter_same (bytes_eq q) (λ other. not (bytes_eq other id)) (not (bytes_eq q id))
     (λ other same. ap (λ k. not (bytes_eq k id)) (sym (bytes_eq-true q other same))) ids

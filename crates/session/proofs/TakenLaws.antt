@@ -4,11 +4,11 @@ use Rattle.std.specs.List.{AllByRecursion}
 use Rattle.std.proofs.lemmas.List.Elements.{All-contains, All-from_recursion, Contains-append_left, Contains-append_right, Contains-append_cases}
 use Rattle.elem.specs.ElementValue.{ElementValue}
 use Rattle.elem.specs.Said.{AreElements}
-use Rattle.elem_store.specs.Updates.{AreStored, HaveSameUpdates, stored_of}
+use Rattle.elem_store.specs.Updates.{AreStored, HaveSameUpdates, stored_of, is_among}
 use Rattle.elem_store.proofs.CallerLemmas.{Contains-head, Contains-cons, Contains-cases, filter-Contains, stores-converge}
 use Rattle.board_commands.specs.declared.command.Capture.{Capture}
 use Rattle.board_commands.specs.declared.command.Command.{Command}
-use Rattle.reconcile.specs.Ids.{is_held, free_elements}
+use Rattle.reconcile.specs.Ids.{free_elements}
 use Rattle.history.specs.declared.planned.Direction.{Direction}
 use Rattle.history.specs.declared.planned.Direction.TheVariants as directions
 use Rattle.undoing.specs.Carrying.{taken_all}
@@ -198,7 +198,7 @@ module _ (opening : List ElementValue) where
   free-made : (messages : List (List ElementValue)) (held : List (List ℕ)) (list : List ElementValue)
       → AreMade messages list → AreMade messages (free_elements held list)
   free-made messages held list made e among =
-      made e (filter-Contains (λ (x : ElementValue). not (is_held held x.id)) list e among).0
+      made e (filter-Contains (λ (x : ElementValue). not (is_among held x.id)) list e among).0
 
   -- ---- of each seat
   abbrev TookMade : List (List ElementValue) → Seat → Type 0

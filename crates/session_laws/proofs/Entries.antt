@@ -15,7 +15,8 @@ use Rattle.delta.specs.Parts.{counted}
 use Rattle.undoing.specs.Differing.{is_changed, pending}
 use Rattle.undoing.specs.Entries.{pair_ids, IsGiven}
 use Rattle.undoing.specs.Steps.{is_seen, given_of, given, Sought, sought, Turn, step}
-use Rattle.undoing.proofs.CallerLemmas.{rise-lower, ids-from, pending-rise, given-each, step-turn, undone-stamp, ids-exchanged}
+use Rattle.undoing.proofs.CallerLemmas.{ids-from, pending-rise, given-each, step-turn, undone-stamp, ids-exchanged}
+use Rattle.frac_keys.proofs.CallerLemmas.{rise_between-lower}
 
 -- the pairs are of one id each, in the order of the ids; so are those of each entry of a stack
 pub record IsOrdered (pairs : List Pair) : Type 0 where
@@ -131,7 +132,7 @@ module _ (stored : List ElementValue) (time nonce : ℕ) where
           → rise_between (Some pair.after.id) None (ids_of (given stored time nonce pairs)) ≡ true
           → (o : Option ElementValue) → given_of stored time nonce pair ≡ o
           → rise_between a None (ids_of (cons_option o (given stored time nonce pairs))) ≡ true
-      go first rest None is = rise-lower a pair.after.id (ids_of (given stored time nonce pairs)) first rest
+      go first rest None is = rise_between-lower a pair.after.id (ids_of (given stored time nonce pairs)) first rest
       go first rest (Some e) is =
           subst (λ k. (ends_rise a (Some k) && rise_between (Some k) None (ids_of (given stored time nonce pairs)))
           ≡ true) (sym (given-id pair e is))

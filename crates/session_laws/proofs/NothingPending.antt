@@ -7,7 +7,8 @@ use Rattle.elem.specs.ElementValue.{ElementValue}
 use Rattle.elem.specs.Facts.{IsElement, greatest_whole}
 use Rattle.elem.specs.Order.{unstamped}
 use Rattle.elem.specs.Said.{HasValidTexts, AreElements}
-use Rattle.reconcile.specs.Ids.{is_held, free_elements}
+use Rattle.elem_store.specs.Updates.{is_among}
+use Rattle.reconcile.specs.Ids.{free_elements}
 use Rattle.board_commands.specs.declared.command.Capture.{Capture}
 use Rattle.board_commands.specs.declared.command.Capture.TheVariants.{Now, Later, Never}
 use Rattle.board_commands.specs.declared.command.Command.{Command}
@@ -52,7 +53,7 @@ outcome-still capture (Err refusal) s kept are soon still = still
 delivery-still : (list : List ElementValue) (s : State) → IsKept s → AreElements list → IsCaptured s
     → IsCaptured (after_delivery list s)
 delivery-still list s kept are still =
-    carried-captured s (free_elements s.held list) kept (All-filter (λ (e : ElementValue). not (is_held s.held e.id))
+    carried-captured s (free_elements s.held list) kept (All-filter (λ (e : ElementValue). not (is_among s.held e.id))
     (λ e. IsElement e × HasValidTexts e) list are) still
 
 turn_by-still : (direction : Direction) (time nonce : ℕ) (s : State) → IsCaptured s

@@ -9,11 +9,11 @@ use Rattle.elem.specs.ElementValue.{ElementValue}
 use Rattle.elem.specs.Facts.{IsElement, greatest_whole}
 use Rattle.elem.specs.Said.{HasValidTexts, AreElements}
 use Rattle.elem.specs.Order.{has_id}
-use Rattle.elem_store.specs.Updates.{element_of, ids_of, is_taken, takings}
+use Rattle.elem_store.specs.Updates.{element_of, ids_of, is_taken, takings, is_among}
 use Rattle.elem_store.proofs.CallerLemmas.{same_id, of_same, find-Some, filter-Contains, Contains-cases, Contains-head, Contains-cons, member, AreStored-itself, ids-stay}
 use Rattle.delta.specs.Pairs.{Pair, pair_with, pairs_from, exchanged}
 use Rattle.view.specs.Shown.{live_elements, shown}
-use Rattle.reconcile.specs.Ids.{is_held, free_elements}
+use Rattle.reconcile.specs.Ids.{free_elements}
 use Rattle.board_commands.specs.declared.command.Capture.{Capture}
 use Rattle.board_commands.specs.declared.command.Capture.TheVariants.{Now, Later, Never}
 use Rattle.board_commands.specs.declared.command.Command.{Command}
@@ -238,7 +238,7 @@ module _ (s : State) (kept : IsKept s) where
   -- ---- a delivery
   pub delivery-kept : (list : List ElementValue) → AreElements list → IsKept (after_delivery list s)
   delivery-kept list are =
-      carried-kept (free_elements s.held list) (All-filter (λ (e : ElementValue). not (is_held s.held e.id))
+      carried-kept (free_elements s.held list) (All-filter (λ (e : ElementValue). not (is_among s.held e.id))
       (λ e. IsElement e × HasValidTexts e) list are)
 
 -- ---- one step of undo or redo

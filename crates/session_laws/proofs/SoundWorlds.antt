@@ -12,7 +12,8 @@ use Rattle.board_commands.specs.declared.command.Command.{Command}
 use Rattle.effects.specs.declared.refusal.Refusal.{Refusal}
 use Rattle.board_commands.specs.Limits.{IsWithinLimits}
 use Rattle.undoing.specs.Steps.{Turn}
-use Rattle.reconcile.specs.Ids.{is_held, free_elements}
+use Rattle.elem_store.specs.Updates.{is_among}
+use Rattle.reconcile.specs.Ids.{free_elements}
 use Rattle.history.specs.declared.planned.Direction.{Direction}
 use Rattle.history.specs.declared.planned.Direction.TheVariants as directions
 use Rattle.replica.specs.Sound.{IsSoundState}
@@ -150,7 +151,7 @@ unfolding delivered
 delivered-kept list s are kept = record {
   state = delivery-kept s.state kept.state list are;
   taken = All-append Is s.taken (free_elements s.state.held list) kept.taken
-      (All-filter (λ (e : ElementValue). not (is_held s.state.held e.id)) Is list are);
+      (All-filter (λ (e : ElementValue). not (is_among s.state.held e.id)) Is list are);
 }
 
 holding-kept : (ids : List (List ℕ)) (s : Seat) → IsKeptSeat s → IsKeptSeat (holding ids s)

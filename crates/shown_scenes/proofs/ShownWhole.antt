@@ -21,7 +21,7 @@ use Rattle.frames_groups.specs.Frames.{has_frame, keeps_frame, without_frame, fr
 use Rattle.frames_groups.specs.Groups.{grouped, groups_settled}
 use Rattle.view.specs.Settled.{settled}
 use Rattle.view.specs.Shown.{in_scene_order, placed, shown}
-use Rattle.view.proofs.CallerLemmas.{IsPermutation-in_scene_order}
+use Rattle.view.proofs.CallerLemmas.{IsPermutation-in_scene_order, map-some, or-some}
 use Rattle.elem_read.specs.Reading.{IsWholeElement}
 use Rattle.scene_file.proofs.CallerLemmas.{stays-if, IsListed, sound-with, AreSound, repaired-sound, sounds-whole, wholes-sound}
 
@@ -40,15 +40,6 @@ find-all P test [] all = tt
 find-all P test (x ∷ xs) all = cond_both (test x) (Some x) (find test xs) (λ o. IfSome o P) (λ _. All-head P x xs all)
     (λ _. find-all P test xs (All-tail P x xs all))
 
-map-holds : {X Y : Type 0} (P : X → Type 0) (Q : Y → Type 0) (f : X → Y) (o : Option X) → ((x : X) → P x → Q (f x))
-    → IfSome o P → IfSome (option_map f o) Q
-map-holds P Q f None each is = tt
-map-holds P Q f (Some x) each is = each x is
-
-or-holds : {X : Type 0} (P : X → Type 0) (o p : Option X) → IfSome o P → IfSome p P → IfSome (option_or o p) P
-or-holds P None p first second = second
-or-holds P (Some x) p first second = first
-
 abbrev AreListed : List BoundRef → Type 0
 AreListed entries = All IsListed entries
 
@@ -66,10 +57,10 @@ text-written : (list : List ElementValue) (e : ElementValue) → AreSound list �
 unfolding text_of
 text-written list e sounds sound =
     cond_both (can_hold_text e.kind) (option_or (listed_text list e) (first_text list e)) None (λ o. IfSome o IsUtf8)
-    (λ _. or-holds IsUtf8 (listed_text list e) (first_text list e)
-    (map-holds IsListed IsUtf8 (λ (entry : BoundRef). entry.id) (find (is_text_entry list e) e.bound) (λ entry is. is)
+    (λ _. or-some IsUtf8 (listed_text list e) (first_text list e)
+    (map-some IsListed IsUtf8 (λ (entry : BoundRef). entry.id) (find (is_text_entry list e) e.bound) (λ entry is. is)
     (find-all IsListed (is_text_entry list e) e.bound (All-from_recursion IsListed e.bound sound.written.bound)))
-    (map-holds IsSound IsUtf8 id_of (find (names_container e.id) list)
+    (map-some IsSound IsUtf8 id_of (find (names_container e.id) list)
     (λ (text : ElementValue) (is : IsSound text). is.written.id)
     (find-all IsSound (names_container e.id) list sounds)))
     (λ _. tt)

@@ -1,7 +1,7 @@
 -- Ids that are touched: they alone may be stored otherwise than a snapshot has them.
 use Rattle.std.proofs.Common.{◌≡◌, ℕ, zero, suc, Bool, true, false, cond, take, ◌||◌, ◌⊎◌, List, [], ◌∷◌, ◌++◌, Option, Some, None, bytes_eq, nat_cmp, refl, sym, ap, ◌∙◌, inl, inr}
 use Rattle.std.specs.BTreeMap.{is_at}
-use Rattle.std.specs.Cmp.Lexicographic.{slice_cmp, texts_ties, nat_list_eq_equiv}
+use Rattle.std.specs.Cmp.Lexicographic.{slice_cmp}
 use Rattle.std.specs.List.{list_any}
 use Rattle.std.specs.Option.{option_or}
 use Rattle.std.proofs.lemmas.Bool.{cases_Bool, cond-true, cond-false, false≢true}
@@ -10,23 +10,17 @@ use Rattle.json_text.proofs.CallerLemmas.{bytes_eq-true}
 use Rattle.frac_keys.specs.Rising.{are_rising}
 use Rattle.elem.specs.ElementValue.{ElementValue}
 use Rattle.elem.specs.Order.{has_id}
-use Rattle.elem_store.specs.Updates.{element_of, ids_of, is_taken, takings, Taking}
-use Rattle.elem_store.proofs.CallerLemmas.{same_id, same_elements}
+use Rattle.elem_store.specs.Updates.{element_of, ids_of, is_taken, takings, Taking, is_among}
+use Rattle.elem_store.proofs.CallerLemmas.{same_id, same_elements, is_at-among, is_at-bytes}
 use Rattle.undoing.specs.Carrying.{with_put, with_all_put, taken, taken_all, carried, carried_over, carried_all}
 use Rattle.undoing.proofs.CallerLemmas.{put-rising}
 use Rattle.snapshot.specs.Carried.{carried_to, with_made}
-use Rattle.snapshot.specs.Touched.{is_among, AreUntouched, StillTouches, IsTouched, HasTouched, HasPutStored}
+use Rattle.snapshot.specs.Touched.{AreUntouched, StillTouches, IsTouched, HasTouched, HasPutStored}
 use Rattle.snapshot.proofs.CapturedLaws.{found-id, made-id}
 use Rattle.snapshot.proofs.PutLaws.{put-each, put-below, put-there, all-rise, all-each}
 use Rattle.snapshot.proofs.PlanLaws.{carried_over-to, made-rises, takings-more}
 
 -- ---- one id more
-among-ordered : (id : List ℕ) (ids : List (List ℕ)) → list_any (is_at (slice_cmp nat_cmp id)) ids ≡ is_among ids id
-among-ordered id ids = ap (λ test. list_any test ids) (λ i other. sym (texts_ties id other) i)
-
-of-ordered : (id other : List ℕ) → is_at (slice_cmp nat_cmp id) other ≡ bytes_eq other id
-of-ordered id other = sym (texts_ties id other) ∙ nat_list_eq_equiv.symm id other
-
 neither : (b c : Bool) → cond b true c ≡ false → (b ≡ false) × (c ≡ false)
 neither true c h = absurd (false≢true (sym h))
 neither false c h = (refl, h)
@@ -39,17 +33,17 @@ touched-id old id new updates = record {
   still = λ q f. (both q f).1;
   own = λ q f. (both q f).0;
   only = λ q f g.
-      sym (among-ordered q new) ∙ updates q
-      ∙ ap (λ own. cond own true (list_any (is_at (slice_cmp nat_cmp q)) old)) (of-ordered id q ∙ g)
-      ∙ among-ordered q old ∙ f;
+      sym (is_at-among q new) ∙ updates q
+      ∙ ap (λ own. cond own true (list_any (is_at (slice_cmp nat_cmp q)) old)) (is_at-bytes id q ∙ g)
+      ∙ is_at-among q old ∙ f;
 }
   where
     both : (q : List ℕ) → is_among new q ≡ false → (bytes_eq q id ≡ false) × (is_among old q ≡ false)
     both q f =
         neither (bytes_eq q id) (is_among old q)
-        (ap (cond (bytes_eq q id) true) (sym (among-ordered q old))
-        ∙ ap (λ own. cond own true (list_any (is_at (slice_cmp nat_cmp q)) old)) (sym (of-ordered id q))
-        ∙ sym (updates q) ∙ among-ordered q new ∙ f)
+        (ap (cond (bytes_eq q id) true) (sym (is_at-among q old))
+        ∙ ap (λ own. cond own true (list_any (is_at (slice_cmp nat_cmp q)) old)) (sym (is_at-bytes id q))
+        ∙ sym (updates q) ∙ is_at-among q new ∙ f)
 
 -- ---- those of a list
 none-tail : (x : ElementValue) (xs : List ElementValue) (id : List ℕ) → element_of (x ∷ xs) id ≡ None

@@ -1,13 +1,8 @@
 -- Ids of elements that may be stored otherwise than a snapshot has them. This project's own.
 use Rattle.std.specs.Prelude.{◌≡◌, ◌⊎◌, ℕ, List, Bool, false, Option, Some, None, bytes_eq}
-use Rattle.std.specs.List.{list_any}
 use Rattle.elem.specs.ElementValue.{ElementValue}
-use Rattle.elem_store.specs.Updates.{element_of}
+use Rattle.elem_store.specs.Updates.{element_of, is_among}
 use Rattle.undoing.specs.Carrying.{with_put}
-
--- whether an id is among these
-abbrev pub is_among : List (List ℕ) → List ℕ → Bool
-is_among ids id = list_any (bytes_eq id) ids
 
 -- Of each id that isn't among these a snapshot has what is stored, or neither has an element.
 abbrev pub AreUntouched : List (List ℕ) → List ElementValue → List ElementValue → Type 0

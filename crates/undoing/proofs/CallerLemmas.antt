@@ -1,7 +1,7 @@
 -- The lemmas that crates above cite; nothing else of this folder is cited there.
 pub use Rattle.undoing.proofs.DifferingLaws.{changed-false, changed-is, differ-false, differ-same, differ-true}
 pub use Rattle.undoing.proofs.DifferingLaws.{found-is, ids-from, pairs-elements, pending-entry, pending-rise}
-pub use Rattle.undoing.proofs.DifferingLaws.{pending-stands, rise-lower, same_kind-same, same_kind-true}
+pub use Rattle.undoing.proofs.DifferingLaws.{pending-stands, same_kind-same, same_kind-true}
 pub use Rattle.undoing.proofs.LeavingLaws.{undone-leaves}
 pub use Rattle.undoing.proofs.StepLaws.{exchanged-entry, full-is, given-all, given-each, given-elements, given-rise}
 pub use Rattle.undoing.proofs.StepLaws.{given-taken, ids-exchanged, made-entry, sought-entries, step-sound, step-stops}

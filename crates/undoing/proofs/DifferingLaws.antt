@@ -4,7 +4,7 @@ use Rattle.std.proofs.lemmas.Bool.{false≢true, true_from_ne_false, not-false, 
 use Rattle.std.proofs.lemmas.List.Elements.{All-contains}
 use Rattle.json_text.proofs.CallerLemmas.{bytes_eq-true, bytes_eq-same, Contains-map}
 use Rattle.frac_keys.specs.Rising.{ends_rise, rise_between, are_rising}
-use Rattle.frac_keys.proofs.CallerLemmas.{bytes_less-trans}
+use Rattle.frac_keys.proofs.CallerLemmas.{rise_between-filter}
 use Rattle.elem.specs.declared.kind.Kind.{Kind}
 use Rattle.elem.specs.ElementValue.{ElementValue}
 use Rattle.elem.specs.Facts.{IsKind, IsElement}
@@ -139,33 +139,10 @@ pending-stands snapshot stored parts are are' stands = record {
       λ pair c. stands.each_pair pair (filter-Contains is_changed (pairs_from (element_of snapshot) stored) pair c).0;
 }
 
--- what rises from an end rises from any lesser one
-pub rise-lower : (a : Option (List ℕ)) (k : List ℕ) (ids : List (List ℕ)) → ends_rise a (Some k) ≡ true
-    → rise_between (Some k) None ids ≡ true → rise_between a None ids ≡ true
-rise-lower None k [] l h = refl
-rise-lower (Some a) k [] l h = refl
-rise-lower None k (id ∷ ids) l h = (and_parts (ends_rise (Some k) (Some id)) (rise_between (Some id) None ids) h).1
-rise-lower (Some a) k (id ∷ ids) l h =
-    let parts = and_parts (ends_rise (Some k) (Some id)) (rise_between (Some id) None ids) h in
-    and_from (ends_rise (Some a) (Some id)) (rise_between (Some id) None ids) (bytes_less-trans a k id l parts.0)
-    parts.1
-
 -- some of a list whose ids rise have rising ids
-module _ {X : Type 0} (id_of : X → List ℕ) (p : X → Bool) where
-  rise-filter : (a : Option (List ℕ)) (xs : List X) → rise_between a None (map id_of xs) ≡ true
-      → rise_between a None (map id_of (filter p xs)) ≡ true
-  rise-filter a [] h = h
-  rise-filter a (x ∷ xs) h =
-      let parts = and_parts (ends_rise a (Some (id_of x))) (rise_between (Some (id_of x)) None (map id_of xs)) h in
-      let rest = rise-filter (Some (id_of x)) xs parts.1 in
-      elim (p x) as (λ b. rise_between a None (map id_of (cond b (x ∷ filter p xs) (filter p xs))) ≡ true) [
-        | true ↦ and_from (ends_rise a (Some (id_of x))) (rise_between (Some (id_of x)) None (map id_of (filter p xs)))
-            parts.0 rest
-        | false ↦ rise-lower a (id_of x) (map id_of (filter p xs)) parts.0 rest
-      ]
-
-  pub rising-filter : (xs : List X) → are_rising (map id_of xs) ≡ true → are_rising (map id_of (filter p xs)) ≡ true
-  rising-filter xs h = rise-filter None xs h
+pub rising-filter : {X : Type 0} (id_of : X → List ℕ) (p : X → Bool) (xs : List X) → are_rising (map id_of xs) ≡ true
+    → are_rising (map id_of (filter p xs)) ≡ true
+rising-filter id_of p xs h = rise_between-filter id_of p None xs h
 
 pub ids-from : (before : List ℕ → Option ElementValue) (elements : List ElementValue)
     → pair_ids (pairs_from before elements) ≡ ids_of elements

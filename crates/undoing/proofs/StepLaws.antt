@@ -7,7 +7,7 @@ use Rattle.std.proofs.lemmas.List.Elements.{All-contains_itself, All-weaker, All
 use Rattle.std.proofs.lemmas.Option.{none-some, same_Some, cond_some}
 use Rattle.frac_keys.specs.Keys.{bytes_less}
 use Rattle.frac_keys.specs.Rising.{ends_rise, rise_between, are_rising}
-use Rattle.frac_keys.proofs.CallerLemmas.{bytes_less_itself, bytes_less-asym}
+use Rattle.frac_keys.proofs.CallerLemmas.{bytes_less_itself, bytes_less-asym, rise_between-lower}
 use Rattle.json_text.proofs.CallerLemmas.{Contains-map}
 use Rattle.elem.specs.ElementValue.{ElementValue}
 use Rattle.elem.specs.Facts.{IsElement, greatest_whole}
@@ -23,7 +23,7 @@ use Rattle.undoing.specs.Differing.{differ}
 use Rattle.undoing.specs.Entries.{IsOfElements, pair_ids, IsEntry, AreEntries, IsGiven, IsFullId, IsSoundTurn}
 use Rattle.undoing.specs.Steps.{Reverted, reverted, changes, is_full, is_seen, given_of, given, full_id, Sought, sought, Turn, made, turn_of, turn_unless, step}
 use Rattle.undoing.specs.Undoing.{undone}
-use Rattle.undoing.proofs.DifferingLaws.{differ-true, found-is, rise-lower, ids-from}
+use Rattle.undoing.proofs.DifferingLaws.{differ-true, found-is, ids-from}
 use Rattle.undoing.proofs.UndoneLaws.{undone-stamp, undone-element}
 
 -- ---- what a function gives of the items of a list
@@ -63,7 +63,7 @@ module _ {X Y : Type 0} (h : X → Option Y) where
     where
       go : ends_rise a (Some (id x)) ≡ true → rise_between (Some (id x)) None (map id' (filter_map h xs)) ≡ true
           → (o : Option Y) → h x ≡ o → rise_between a None (map id' (cons_option o (filter_map h xs))) ≡ true
-      go first rest None is = rise-lower a (id x) (map id' (filter_map h xs)) first rest
+      go first rest None is = rise_between-lower a (id x) (map id' (filter_map h xs)) first rest
       go first rest (Some y) is =
           subst (λ k. (ends_rise a (Some k) && rise_between (Some k) None (map id' (filter_map h xs))) ≡ true)
           (sym (same x y is))
@@ -177,7 +177,7 @@ module _ {X : Type 0} (id_of : X → List ℕ) (p : X → Bool) where
       | inr later ↦
           let rest = (and_parts (ends_rise None (Some (id_of z))) (rise_between (Some (id_of z)) None (map id_of xs))
           rise).1 in
-          found-least xs x y (rise-lower None (id_of z) (map id_of xs) refl rest)
+          found-least xs x y (rise_between-lower None (id_of z) (map id_of xs) refl rest)
           (sym (cond-false (p z) (Some z) (find p xs) f) ∙ found) later passes
     ]
   ]

@@ -38,12 +38,12 @@ find-some P p (x ∷ xs) all = elim (p x) as (λ (b : Bool). IfSome (if b then S
   | false ↦ find-some P p xs all.1
 ]
 
-map-some : {X Y : Type 0} (P : X → Type 0) (Q : Y → Type 0) (f : X → Y) (o : Option X) → ((x : X) → P x → Q (f x))
+pub map-some : {X Y : Type 0} (P : X → Type 0) (Q : Y → Type 0) (f : X → Y) (o : Option X) → ((x : X) → P x → Q (f x))
     → IfSome o P → IfSome (option_map f o) Q
 map-some P Q f None each is = tt
 map-some P Q f (Some x) each is = each x is
 
-or-some : {X : Type 0} (P : X → Type 0) (o other : Option X) → IfSome o P → IfSome other P
+pub or-some : {X : Type 0} (P : X → Type 0) (o other : Option X) → IfSome o P → IfSome other P
     → IfSome (option_or o other) P
 or-some P None other first second = second
 or-some P (Some x) other first second = first

@@ -15,7 +15,7 @@ use Rattle.std.proofs.lemmas.List.Sums.{AllPass-from_list_all, list_all-from_All
 use Rattle.std.proofs.lemmas.List.Sorted.{IsPermutation-refl, IsPermutation-sym, IsPermutation-map, All-permutation}
 use Rattle.frac_keys.specs.Keys.{bytes_less}
 use Rattle.frac_keys.specs.Rising.{ends_rise, is_key_or_none, lies_between, rise_between, are_rising}
-use Rattle.frac_keys.proofs.CallerLemmas.{AreBetween, lies_between-risen, rise_between-ends}
+use Rattle.frac_keys.proofs.CallerLemmas.{AreBetween, lies_between-risen, rise_between-filter}
 use Rattle.index_repair.specs.Repair.{repaired}
 use Rattle.index_repair.proofs.CallerLemmas.{keyed-rising, repaired-law}
 use Rattle.elem.specs.ElementValue.{ElementValue}
@@ -31,29 +31,9 @@ use Rattle.view.proofs.InOrder.{in_order-only, in_order-same, in_order-permuted,
 use Rattle.view.proofs.SceneOrder.{scene_order, IsPermutation-in_scene_order, in_scene_order-is}
 
 -- ---- ids that rise
-rise_from_below : (low : Option (List ℕ)) (key : List ℕ) (keys : List (List ℕ)) → ends_rise low (Some key) ≡ true
-    → rise_between (Some key) None keys ≡ true → rise_between low None keys ≡ true
-rise_from_below None key [] h l = refl
-rise_from_below (Some low) key [] h l = refl
-rise_from_below low key (next ∷ keys) h l =
-    let p = and_parts (bytes_less key next) (rise_between (Some next) None keys) l in
-    let first = rise_between-ends low (Some next) (key ∷ [])
-    (and_from (ends_rise low (Some key)) (bytes_less key next) h p.0) in
-    and_from (ends_rise low (Some next)) (rise_between (Some next) None keys) first p.1
-
-filter_rises : (low : Option (List ℕ)) (p : ElementValue → Bool) (es : List ElementValue)
-    → rise_between low None (ids_of es) ≡ true → rise_between low None (ids_of (filter p es)) ≡ true
-filter_rises low p [] h = h
-filter_rises low p (e ∷ es) h =
-    let both = and_parts (ends_rise low (Some e.id)) (rise_between (Some e.id) None (ids_of es)) h in
-    cond_both (p e) (e ∷ filter p es) (filter p es) (λ kept. rise_between low None (ids_of kept) ≡ true)
-    (λ _. and_from (ends_rise low (Some e.id)) (rise_between (Some e.id) None (ids_of (filter p es))) both.0
-    (filter_rises (Some e.id) p es both.1))
-    (λ _. filter_rises low p es (rise_from_below low e.id (ids_of es) both.0 both.1))
-
 pub live_elements-rise : (stored : List ElementValue) → are_rising (ids_of stored) ≡ true
     → are_rising (ids_of (live_elements stored)) ≡ true
-live_elements-rise stored h = filter_rises None is_live stored h
+live_elements-rise stored h = rise_between-filter (λ (e : ElementValue). e.id) is_live None stored h
 
 apart_from_below : (key : List ℕ) (keys : List (List ℕ)) → list_all (lies_between (Some key) None) keys ≡ true
     → AllByRecursion (λ other. bytes_eq key other ≡ false) keys
@@ -81,20 +61,20 @@ pub live-distinct : (stored live : List ElementValue) → live ≡ live_elements
 live-distinct stored live is h = rw is (HaveDistinctIds-rising (live_elements stored) (live_elements-rise stored h))
 
 -- ---- elements with new keys
-ids_of-keyed : (es : List ElementValue) (keys : List (List ℕ)) → length keys ≡ length es
+pub ids_of-keyed : (es : List ElementValue) (keys : List (List ℕ)) → length keys ≡ length es
     → ids_of (keyed es keys) ≡ ids_of es
 ids_of-keyed [] keys h = refl
 ids_of-keyed (e ∷ es) [] h = absurd (omega arith)
 ids_of-keyed (e ∷ es) (key ∷ keys) h = ap (λ ids. e.id ∷ ids) (ids_of-keyed es keys (omega arith))
 
-indices-keyed : (es : List ElementValue) (keys : List (List ℕ)) → length keys ≡ length es
+pub indices-keyed : (es : List ElementValue) (keys : List (List ℕ)) → length keys ≡ length es
     → map index_of (keyed es keys) ≡ map Some keys
 indices-keyed [] [] h = refl
 indices-keyed [] (key ∷ keys) h = absurd (omega arith)
 indices-keyed (e ∷ es) [] h = absurd (omega arith)
 indices-keyed (e ∷ es) (key ∷ keys) h = ap (λ indices. Some key ∷ indices) (indices-keyed es keys (omega arith))
 
-others-keyed : (es : List ElementValue) (keys : List (List ℕ)) → length keys ≡ length es
+pub others-keyed : (es : List ElementValue) (keys : List (List ℕ)) → length keys ≡ length es
     → map without_index (keyed es keys) ≡ map without_index es
 others-keyed [] keys h = refl
 others-keyed (e ∷ es) [] h = absurd (omega arith)
@@ -344,11 +324,6 @@ module _ (stored : List ElementValue) (i : ℕ) (e : ElementValue) (at' : Some e
       so_far ∙ (sym (append-nil (live_elements (take i stored)))
       ∙ (ap (λ more. live_elements (take i stored) ++ more) (sym (cond-false (is_live e) (e ∷ []) [] h))
       ∙ sym one_more))
-
-pub within_stored : (stored : List ElementValue) (i : ℕ) → i < length stored → None ≡ slice_get stored i → ⊥
-within_stored [] i l h = absurd (omega arith)
-within_stored (e ∷ stored) zero l h = cc
-within_stored (e ∷ stored) (suc i) l h = within_stored stored i (omega arith) h
 
 pub live_elements-live : (stored : List ElementValue) → list_all is_live (live_elements stored) ≡ true
 live_elements-live stored = list_all-from_AllPass is_live (live_elements stored) (filter_passes is_live stored)

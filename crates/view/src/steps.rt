@@ -38,9 +38,9 @@ pub fn three_steps_are_enough()
 
 /// Of what is at most three steps of links away, much plays no part: settling looks at an element;
 /// at the arrows and texts that name it; at its container, if it is a text, and the texts that name
-/// this; at the kind of what its ends name, and at the container of a text among these; and at its
-/// frame. At the other arrows that are bound to what its ends name, and at the listing of that, it
-/// doesn't look.
+/// this; at the kind of what its ends name, and at a text among these, with its container; and at
+/// its frame. At the other arrows that are bound to what its ends name it doesn't look, nor at the
+/// listing of that, unless it is a text.
 pub fn what_is_seen_is_enough()
     // Where two lists look alike to an element but for keys, settling makes the same of it in both,
     // but for its key.

@@ -1,3 +1,4 @@
 -- What only this crate's own bodies and proofs need.
+pub mod Held
 pub mod Sums
 pub mod Texts

@@ -1,7 +1,7 @@
 //! One link, whose handshake is whole.
 
 ghost use Rattle.std.specs.Prelude.{◌≡◌};
-ghost use Rattle.ws_links.specs.Held.{held_by};
+ghost use Rattle.ws_links.specs.inner.Held.{held_by};
 ghost use Rattle.ws_links.specs.inner.Sums.{held_with};
 
 use crate::buffer::Buffer;

@@ -1,7 +1,7 @@
 //! The links of a room.
 
 ghost use Rattle.std.specs.Prelude.{IfSome};
-ghost use Rattle.ws_links.specs.Held.{HoldsMost};
+ghost use Rattle.ws_links.specs.inner.Held.{HoldsMost};
 
 use crate::frames::{Frames, PLACE};
 use crate::greeting::Greeted;

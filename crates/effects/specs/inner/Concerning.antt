@@ -5,13 +5,12 @@ use Rattle.std.specs.Cmp.Lexicographic.{slice_cmp}
 use Rattle.std.specs.Option.{option_and_then, option_map_or}
 use Rattle.std.specs.Ordering.{nat_cmp}
 use Rattle.elem.specs.ElementValue.{ElementValue}
-use Rattle.elem_store.specs.Updates.{element_of}
+use Rattle.elem_store.specs.Updates.{element_of, is_among}
 use Rattle.links.specs.Steps.{names_id}
 use Rattle.view.specs.Shown.{is_live}
 use Rattle.effects.specs.declared.effect.Effect.{Effect}
 use Rattle.effects.specs.declared.effect.Effect.TheVariants as effects
 use Rattle.effects.specs.Changed.{change_of, is_full}
-use Rattle.effects.specs.Naming.{is_among}
 use Rattle.effects.specs.Refusals.{is_live_id}
 
 -- what is made of the stored element of an id, stamped, if that changes; and whether it would

@@ -10,7 +10,7 @@ use Rattle.elem.specs.ElementValue.{ElementValue}
 use Rattle.elem.specs.Facts.{IsBinding}
 use Rattle.json_text.specs.Value.{IsCompact}
 use Rattle.links.specs.Entries.{text_entry}
-use Rattle.elem_store.specs.Updates.{element_of}
+use Rattle.elem_store.specs.Updates.{element_of, is_among}
 use Rattle.links.specs.Names.{target_of}
 use Rattle.index_repair.specs.Keyed.{index_of}
 use Rattle.effects.specs.declared.effect.Effect.{Effect}
@@ -23,7 +23,6 @@ use Rattle.effects.specs.Deleting.{deleted_from}
 use Rattle.board_commands.specs.declared.command.Command.{Command}
 use Rattle.effects.specs.Effects.{effect, with_group, without_group}
 use Rattle.effects.specs.Linking.{listed, unlisted, with_end_of, with_container_of, with_text_of, without_container_of}
-use Rattle.effects.specs.Naming.{is_among}
 use Rattle.effects.specs.Placing.{with_key_of}
 use Rattle.effects.specs.Settings.{with_set_member, is_protected}
 

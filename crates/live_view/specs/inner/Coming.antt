@@ -3,13 +3,13 @@ use Rattle.std.specs.Prelude.{◌≡◌, ℕ, zero, suc, ◌+◌, ◌<◌, ◌�
 use Rattle.std.specs.List.{IsDistinct}
 use Rattle.frac_keys.specs.Rising.{are_rising}
 use Rattle.elem.specs.ElementValue.{ElementValue}
-use Rattle.elem_store.specs.Updates.{element_of, ids_of}
+use Rattle.elem_store.specs.Updates.{element_of, ids_of, is_among}
 use Rattle.view.specs.Settled.{settled}
 use Rattle.index_repair.specs.Keyed.{with_index}
 use Rattle.view.specs.Shown.{as_stored, comes_before, in_scene_order, without_index}
 use Rattle.live_view.specs.declared.places.Put.{Put}
 use Rattle.live_view.specs.inner.Putting.{puts_of, IsInPlace}
-use Rattle.live_view.specs.inner.Reached.{is_among, AreStartedBy, AreSurrounded, HasNamers, HaveReached}
+use Rattle.live_view.specs.inner.Reached.{AreStartedBy, AreSurrounded, HasNamers, HaveReached}
 use Rattle.live_view.specs.inner.Replacing.{element_after}
 
 -- The element of an id is gone, and all others are as they were.

@@ -2,10 +2,9 @@
 use Rattle.std.specs.Prelude.{◌≡◌, ℕ, List, true, Option, Some, None, is_some, if◌then◌else◌}
 use Rattle.frac_keys.specs.Rising.{are_rising}
 use Rattle.elem.specs.ElementValue.{ElementValue}
-use Rattle.elem_store.specs.Updates.{element_of, ids_of}
+use Rattle.elem_store.specs.Updates.{element_of, ids_of, is_among}
 use Rattle.undoing.specs.Carrying.{taken_all}
 use Rattle.view.specs.Shown.{is_live}
-use Rattle.live_view.specs.inner.Reached.{is_among}
 use Rattle.live_view.specs.inner.Replacing.{element_after}
 
 -- These are the stored elements of the ids, in the order of their ids; each of these is stored.

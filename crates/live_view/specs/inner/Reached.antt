@@ -1,18 +1,14 @@
 -- Ids that are reached over links. This project's own.
 use Rattle.std.specs.Prelude.{◌≡◌, ◌⊎◌, ℕ, List, Bool, true, false, ◌||◌, Some, bytes_eq, Contains, All}
 use Rattle.std.specs.BTreeSet.{BTreeSet}
-use Rattle.std.specs.List.{list_any, IsDistinct}
+use Rattle.std.specs.List.{IsDistinct}
 use Rattle.std.specs.Option.{option_map_or}
 use Rattle.elem.specs.ElementValue.{ElementValue}
-use Rattle.elem_store.specs.Updates.{element_of}
+use Rattle.elem_store.specs.Updates.{element_of, is_among}
 use Rattle.links.specs.Looks.{kind_at}
 use Rattle.links.specs.Names.{is_text}
 use Rattle.links.specs.Steps.{links_to, names_id}
 use Rattle.links.specs.Tables.{has_seen}
-
--- whether an id is one of these
-abbrev pub is_among : List (List ℕ) → List ℕ → Bool
-is_among ids id = list_any (bytes_eq id) ids
 
 -- A list of ids, each once, and the set of them.
 pub record AreIds (ids : List (List ℕ)) (seen : BTreeSet (List ℕ)) : Type 0 where

@@ -5,7 +5,7 @@ use Rattle.std.specs.List.{list_any}
 use Rattle.std.specs.Option.{option_or}
 use Rattle.frac_keys.specs.Rising.{are_rising}
 use Rattle.elem.specs.ElementValue.{ElementValue}
-use Rattle.elem_store.specs.Updates.{element_of, ids_of}
+use Rattle.elem_store.specs.Updates.{element_of, ids_of, is_among}
 use Rattle.links.specs.declared.rows.LinkRow.{LinkRow}
 use Rattle.links.specs.Rows.{has_row}
 use Rattle.links.specs.Steps.{names_id}
@@ -13,7 +13,7 @@ use Rattle.view.specs.Settled.{settled}
 use Rattle.view.specs.Shown.{in_scene_order, without_index, IsView}
 use Rattle.live_view.specs.declared.places.Put.{Put}
 use Rattle.live_view.specs.inner.Putting.{puts_of, IsInPlace}
-use Rattle.live_view.specs.inner.Reached.{is_among, AreStartedBy, AreSurrounded, HaveReached, StaysKind}
+use Rattle.live_view.specs.inner.Reached.{AreStartedBy, AreSurrounded, HaveReached, StaysKind}
 use Rattle.view.specs.Kept.{AreOthersAsStored, HaveRowsOf}
 
 -- the element of an id after new ones took the places of those of their ids

@@ -5,9 +5,8 @@ use Rattle.std.specs.BTreeSet.{BTreeSet, contains}
 use Rattle.std.specs.Cmp.Lexicographic.{slice_cmp}
 use Rattle.std.specs.Ordering.{nat_cmp}
 use Rattle.elem.specs.ElementValue.{ElementValue}
-use Rattle.elem_store.specs.Updates.{ids_of}
+use Rattle.elem_store.specs.Updates.{ids_of, is_among}
 use Rattle.live_view.specs.declared.places.Put.{Put}
-use Rattle.live_view.specs.inner.Reached.{is_among}
 
 -- the ids of the old set are in the new one
 abbrev pub StillHas : BTreeSet (List ℕ) → BTreeSet (List ℕ) → Type 0

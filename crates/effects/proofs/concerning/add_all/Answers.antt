@@ -1,5 +1,5 @@
 use Rattle.std.proofs.Common.{ℕ, List, ◌||◌, bytes_eq, arith, take_all, ap, ◌∙◌}
-use Rattle.effects.specs.Naming.{is_among}
+use Rattle.elem_store.specs.Updates.{is_among}
 use Rattle.effects.proofs.ConcerningLaws.{has, added-more}
 use Rattle.effects.proofs.concerning.add_all.Goals as goal
 

@@ -1,7 +1,7 @@
 use Rattle.std.proofs.Common.{◌≡◌, ℕ, List, ◌||◌, nat_cmp, take}
 use Rattle.std.specs.BTreeSet.{contains}
 use Rattle.std.specs.Cmp.Lexicographic.{slice_cmp}
-use Rattle.effects.specs.Naming.{is_among}
+use Rattle.elem_store.specs.Updates.{is_among}
 use Rattle.effects.proofs.concerning.add_all.Given as goal
 
 abbrev pub invariant-loop-id : goal.invariant-loop-id

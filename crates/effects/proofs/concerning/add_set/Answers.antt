@@ -1,6 +1,6 @@
 use Rattle.std.proofs.Common.{sym, ap, ◌∙◌, ◌||◌, bytes_eq}
 use Rattle.std.proofs.Math.Bool.{or_comm}
-use Rattle.effects.specs.Naming.{is_among}
+use Rattle.elem_store.specs.Updates.{is_among}
 use Rattle.effects.proofs.ConcerningLaws.{has, added-left, added-all}
 use Rattle.effects.proofs.ChosenLaws.{contains-among}
 use Rattle.effects.proofs.concerning.add_set.Goals as goal

@@ -1,7 +1,7 @@
 use Rattle.std.proofs.Common.{◌≡◌, ℕ, List, ◌||◌, nat_cmp}
 use Rattle.std.specs.BTreeSet.{contains}
 use Rattle.std.specs.Cmp.Lexicographic.{slice_cmp}
-use Rattle.effects.specs.Naming.{is_among}
+use Rattle.elem_store.specs.Updates.{is_among}
 use Rattle.effects.proofs.concerning.add_set.Given as goal
 
 -- those that are there and those that are left are all

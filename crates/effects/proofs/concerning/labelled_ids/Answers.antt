@@ -2,7 +2,7 @@
 use Rattle.std.proofs.Common.{◌||◌, bytes_eq, sym, ap, ◌∙◌}
 use Rattle.std.proofs.lemmas.Bool.{or_parts}
 use Rattle.links.specs.Names.{is_id}
-use Rattle.effects.specs.Naming.{is_among}
+use Rattle.elem_store.specs.Updates.{is_among}
 use Rattle.effects.proofs.ConcerningLaws.{has, namers-added}
 use Rattle.effects.proofs.concerning.labelled_ids.Goals as goal
 

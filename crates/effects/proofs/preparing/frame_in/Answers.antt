@@ -1,5 +1,5 @@
 use Rattle.std.proofs.Common.{Some, ap, ◌∙◌, if◌then◌else◌}
-use Rattle.effects.specs.Naming.{is_among}
+use Rattle.elem_store.specs.Updates.{is_among}
 use Rattle.effects.proofs.PreparingLaws.{changed-among}
 use Rattle.effects.proofs.preparing.frame_in.Goals as goal
 

@@ -1,6 +1,6 @@
 use Rattle.std.proofs.Common.{ap, ◌∙◌, if◌then◌else◌}
 use Rattle.effects.specs.Effects.{without_group}
-use Rattle.effects.specs.Naming.{is_among}
+use Rattle.elem_store.specs.Updates.{is_among}
 use Rattle.effects.proofs.PreparingLaws.{changed-among}
 use Rattle.effects.proofs.preparing.ungroup.Goals as goal
 

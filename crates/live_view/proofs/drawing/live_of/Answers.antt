@@ -1,6 +1,7 @@
 use Rattle.std.proofs.Common.{take_all, sym, ap, ◌∙◌, arith}
 use Rattle.view.specs.Shown.{live_elements}
-use Rattle.view.proofs.CallerLemmas.{live_one, deleted_one, within_stored}
+use Rattle.view.proofs.CallerLemmas.{live_one, deleted_one}
+use Rattle.elem_store.proofs.CallerLemmas.{within_stored}
 use Rattle.live_view.proofs.drawing.live_of.Goals as goal
 use Rattle.live_view.proofs.drawing.live_of.Goals.{in-Some+then-is_live+in_ok-try_clone+in_ok-push, in-Some+else-is_live, in_default}
 

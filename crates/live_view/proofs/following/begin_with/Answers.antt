@@ -1,18 +1,15 @@
 use Rattle.std.proofs.Common.{◌≡◌, false, Option, None, Some, is_some, refl, sym, ◌∙◌}
 use Rattle.std.proofs.lemmas.Result.{on_ok_weaker}
 use Rattle.elem.specs.ElementValue.{ElementValue}
+use Rattle.json_text.proofs.CallerLemmas.{none-is}
 use Rattle.live_view.proofs.FollowingLaws.{begun}
 use Rattle.live_view.proofs.following.begin_with.Goals as goal
-
-absent : (o : Option ElementValue) → is_some o ≡ false → o ≡ None
-absent None h = refl
-absent (Some e) h = cc
 
 pub returns-in-Some-clause-same : goal.returns-in-Some-clause-same
 returns-in-Some-clause-same c =
     on_ok_weaker c.put_in.result
     (λ has. (begun c.args.store.now.elements c.args.news.now.elements c.put_in.new.news.elements c.args.id.now
-    c.in-Some.e.now (absent _ (sym c.is_stored.ensures ∙ c.if-is_stored.false))
+    c.in-Some.e.now (none-is _ (sym c.is_stored.ensures ∙ c.if-is_stored.false))
     (sym (rw c.in-Some.is at c.get-stored.ensures.element)) has).0)
     c.put_in.ensures
 
@@ -20,6 +17,6 @@ pub returns-in-Some-clause-known : goal.returns-in-Some-clause-known
 returns-in-Some-clause-known c =
     on_ok_weaker c.put_in.result
     (λ has. (begun c.args.store.now.elements c.args.news.now.elements c.put_in.new.news.elements c.args.id.now
-    c.in-Some.e.now (absent _ (sym c.is_stored.ensures ∙ c.if-is_stored.false))
+    c.in-Some.e.now (none-is _ (sym c.is_stored.ensures ∙ c.if-is_stored.false))
     (sym (rw c.in-Some.is at c.get-stored.ensures.element)) has).1)
     c.put_in.ensures

@@ -1,5 +1,5 @@
 use Rattle.std.proofs.Common.{arith}
-use Rattle.view.proofs.CallerLemmas.{within_stored}
+use Rattle.elem_store.proofs.CallerLemmas.{within_stored}
 use Rattle.live_view.proofs.CopyLaws.{stored-push}
 use Rattle.live_view.proofs.following.stored_elements.Goals as goal
 use Rattle.live_view.proofs.following.stored_elements.Goals.{in-Some+in_ok-try_clone+in_ok-push, in_default}

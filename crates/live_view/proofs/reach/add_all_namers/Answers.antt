@@ -1,7 +1,7 @@
 use Rattle.std.proofs.Common.{ap, ◌∙◌}
 use Rattle.std.proofs.lemmas.Bool.{or_left}
 use Rattle.std.proofs.lemmas.Result.{on_ok_weaker}
-use Rattle.live_view.specs.inner.Reached.{is_among}
+use Rattle.elem_store.specs.Updates.{is_among}
 use Rattle.live_view.proofs.Stepping.{namers-among}
 use Rattle.live_view.proofs.reach.add_all_namers.Goals as goal
 

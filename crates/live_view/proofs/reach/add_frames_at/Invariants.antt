@@ -1,5 +1,6 @@
 use Rattle.std.proofs.Common.{◌≡◌, ℕ, List, true, take}
-use Rattle.live_view.specs.inner.Reached.{is_among, AreIds, HaveFrames}
+use Rattle.elem_store.specs.Updates.{is_among}
+use Rattle.live_view.specs.inner.Reached.{AreIds, HaveFrames}
 use Rattle.live_view.proofs.reach.add_frames_at.Given as goal
 
 abbrev pub invariant-loop-id : goal.invariant-loop-id

@@ -2,7 +2,7 @@ use Rattle.std.proofs.Common.{◌≤◌, All, arith, get_or, length, ap, subst, 
 use Rattle.std.proofs.lemmas.Bool.{or_right}
 use Rattle.std.proofs.lemmas.List.Elements.{All-contains}
 use Rattle.links.specs.Names.{is_id}
-use Rattle.live_view.specs.inner.Reached.{is_among}
+use Rattle.elem_store.specs.Updates.{is_among}
 use Rattle.live_view.proofs.Stepping.{HasFrame, frames_of-more}
 use Rattle.live_view.proofs.reach.add_frames_of.Goals as goal
 

@@ -1,5 +1,6 @@
 use Rattle.std.proofs.Common.{◌≡◌, ℕ, List, All, true, take}
-use Rattle.live_view.specs.inner.Reached.{is_among, AreIds}
+use Rattle.elem_store.specs.Updates.{is_among}
+use Rattle.live_view.specs.inner.Reached.{AreIds}
 use Rattle.live_view.proofs.Stepping.{HasFrame}
 use Rattle.live_view.proofs.reach.add_frames_of.Given as goal
 

@@ -1,6 +1,6 @@
 use Rattle.std.proofs.Common.{◌||◌, ap, ◌∙◌}
 use Rattle.std.proofs.lemmas.Result.{on_ok_weaker}
-use Rattle.live_view.specs.inner.Reached.{is_among}
+use Rattle.elem_store.specs.Updates.{is_among}
 use Rattle.live_view.proofs.reach.add_linked.Goals as goal
 
 pub returns-clause-ids : goal.returns-clause-ids
@@ -9,5 +9,5 @@ returns-clause-ids c =
     (λ are id.
     are id
     ∙ ap (λ b. b || is_among c.args.ids.now.list.items id)
-    (ap (λ ids. is_among ids id) c.as_slice.ensures.value ∙ c.in_ok-linked.ensures id))
+    (ap (λ ids. is_among ids id) c.as_slice.ensures.value ∙ c.in_ok-linked.ensures.linked id))
     c.add_all.ensures.ids

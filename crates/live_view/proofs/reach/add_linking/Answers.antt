@@ -1,6 +1,6 @@
 use Rattle.std.proofs.Common.{not, ◌||◌, arith, ap, ◌∙◌, take_all}
 use Rattle.links.specs.Names.{is_text}
-use Rattle.live_view.specs.inner.Reached.{is_among}
+use Rattle.elem_store.specs.Updates.{is_among}
 use Rattle.live_view.proofs.Stepping.{linking-among, linking-more}
 use Rattle.live_view.proofs.reach.add_linking.Goals as goal
 

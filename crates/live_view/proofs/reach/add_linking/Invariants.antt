@@ -1,6 +1,7 @@
 use Rattle.std.proofs.Common.{◌≡◌, ℕ, List, not, ◌||◌, true, take}
 use Rattle.links.specs.Names.{is_text}
-use Rattle.live_view.specs.inner.Reached.{is_among, AreIds}
+use Rattle.elem_store.specs.Updates.{is_among}
+use Rattle.live_view.specs.inner.Reached.{AreIds}
 use Rattle.live_view.proofs.Stepping.{LinkAmong}
 use Rattle.live_view.proofs.reach.add_linking.Given as goal
 

@@ -1,5 +1,6 @@
 use Rattle.std.proofs.Common.{◌≡◌, ℕ, List, All, true, take}
-use Rattle.live_view.specs.inner.Reached.{is_among, AreIds, StaysKind}
+use Rattle.elem_store.specs.Updates.{is_among}
+use Rattle.live_view.specs.inner.Reached.{AreIds, StaysKind}
 use Rattle.live_view.proofs.reach.add_namers.Given as goal
 
 abbrev pub invariant-loop-e : goal.invariant-loop-e

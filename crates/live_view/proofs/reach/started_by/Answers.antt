@@ -1,5 +1,6 @@
 use Rattle.std.proofs.Common.{arith, bytes_eq, ◌||◌, ap, ◌∙◌, subst, take_all}
-use Rattle.live_view.specs.inner.Reached.{is_among, AreStartedBy}
+use Rattle.elem_store.specs.Updates.{is_among}
+use Rattle.live_view.specs.inner.Reached.{AreStartedBy}
 use Rattle.live_view.proofs.Stepping.{started-more}
 use Rattle.live_view.proofs.reach.started_by.Goals as goal
 

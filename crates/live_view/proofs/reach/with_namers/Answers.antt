@@ -1,6 +1,7 @@
 use Rattle.std.proofs.Common.{◌≡◌, Bool, true, false, not, ◌||◌, refl, arith, get_or, ap, ◌∙◌}
 use Rattle.links.specs.Names.{is_text}
-use Rattle.live_view.specs.inner.Reached.{is_among, is_text_or_to}
+use Rattle.elem_store.specs.Updates.{is_among}
+use Rattle.live_view.specs.inner.Reached.{is_text_or_to}
 use Rattle.live_view.proofs.Stepping.{namers-more}
 use Rattle.live_view.proofs.reach.with_namers.Goals as goal
 

@@ -2,7 +2,7 @@ use Rattle.std.proofs.Common.{◌++◌, sym, ap, ◌∙◌, append_assoc}
 use Rattle.elem.specs.ElementValue.{ElementValue}
 use Rattle.view.specs.Shown.{without_index}
 use Rattle.live_view.specs.inner.Putting.{IsInPlace}
-use Rattle.live_view.specs.inner.Reached.{is_among}
+use Rattle.elem_store.specs.Updates.{is_among}
 use Rattle.live_view.proofs.PuttingLaws.{placed-push, in-place, drawn-push}
 use Rattle.live_view.proofs.replacing.puts_near.Goals as goal
 

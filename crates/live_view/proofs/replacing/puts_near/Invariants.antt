@@ -2,7 +2,7 @@ use Rattle.std.proofs.Common.{◌≡◌, ◌++◌, All, filter, map}
 use Rattle.elem.specs.ElementValue.{ElementValue}
 use Rattle.view.specs.Shown.{without_index}
 use Rattle.live_view.specs.inner.Putting.{puts_of, IsInPlace}
-use Rattle.live_view.specs.inner.Reached.{is_among}
+use Rattle.elem_store.specs.Updates.{is_among}
 use Rattle.live_view.proofs.replacing.puts_near.Given as goal
 
 -- the elements so far that are near are put, and the others are left

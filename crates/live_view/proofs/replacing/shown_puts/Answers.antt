@@ -2,7 +2,7 @@ use Rattle.std.proofs.Common.{filter, map, ap, ◌∙◌}
 use Rattle.std.proofs.lemmas.Result.{IfOk-weaker}
 use Rattle.elem.specs.ElementValue.{ElementValue}
 use Rattle.view.specs.Shown.{without_index}
-use Rattle.live_view.specs.inner.Reached.{is_among}
+use Rattle.elem_store.specs.Updates.{is_among}
 use Rattle.live_view.proofs.PuttingLaws.{IfSome-weaker}
 use Rattle.live_view.proofs.Stepping.{started-kept}
 use Rattle.live_view.proofs.replacing.shown_puts.Goals as goal

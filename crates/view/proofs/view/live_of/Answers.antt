@@ -1,9 +1,10 @@
 use Rattle.std.proofs.Common.{take_all, refl, sym, ap, ◌∙◌, arith}
 use Rattle.std.proofs.lemmas.List.{map-append}
 use Rattle.std.proofs.lemmas.List.Elements.{All-push}
+use Rattle.elem_store.proofs.CallerLemmas.{within_stored}
 use Rattle.view.specs.Shown.{live_elements}
 use Rattle.view.specs.inner.Spots.{element_at, elements_of, IsSpotIn}
-use Rattle.view.proofs.ShownLaws.{live_one, deleted_one, within_stored}
+use Rattle.view.proofs.ShownLaws.{live_one, deleted_one}
 use Rattle.view.proofs.view.live_of.Goals as goal
 use Rattle.view.proofs.view.live_of.Goals.{in-Some+then-is_live+in_ok-push, in-Some+else-is_live, in_default}
 

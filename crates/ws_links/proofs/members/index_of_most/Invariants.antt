@@ -2,7 +2,7 @@
 use Rattle.std.proofs.Common.{◌≡◌, ℕ, ◌<◌, ◌≤◌, length}
 use Rattle.std.specs.Prelude.{slice_index_or}
 use Rattle.ws_links.specs.declared.link.Link.{Link}
-use Rattle.ws_links.specs.Held.{held_by}
+use Rattle.ws_links.specs.inner.Held.{held_by}
 use Rattle.ws_links.proofs.members.index_of_most.Given as goal
 
 abbrev pub invariant-loop-at : goal.invariant-loop-at

@@ -1,5 +1,6 @@
 use Rattle.std.proofs.Common.{◌≡◌, ◌||◌, ℕ, List, take}
-use Rattle.live_view.specs.inner.Reached.{is_among, AreIds}
+use Rattle.elem_store.specs.Updates.{is_among}
+use Rattle.live_view.specs.inner.Reached.{AreIds}
 use Rattle.live_view.proofs.ids.Ids.add_all.Given as goal
 
 abbrev pub invariant-loop-id : goal.invariant-loop-id

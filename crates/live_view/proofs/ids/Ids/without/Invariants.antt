@@ -1,5 +1,6 @@
 use Rattle.std.proofs.Common.{◌≡◌, ◌&&◌, not, ℕ, List, take, bytes_eq}
-use Rattle.live_view.specs.inner.Reached.{is_among, AreIds}
+use Rattle.elem_store.specs.Updates.{is_among}
+use Rattle.live_view.specs.inner.Reached.{AreIds}
 use Rattle.live_view.proofs.ids.Ids.without.Given as goal
 
 abbrev pub invariant-loop-other : goal.invariant-loop-other

@@ -2,12 +2,11 @@
 use Rattle.std.proofs.Common.{◌≡◌, true, IsSome, sym, ap, ◌∙◌, subst}
 use Rattle.frac_keys.specs.Rising.{are_rising}
 use Rattle.elem_store.specs.Stock.{Stock}
-use Rattle.elem_store.specs.Updates.{element_of, ids_of}
+use Rattle.elem_store.specs.Updates.{element_of, ids_of, is_among}
 use Rattle.delta.specs.Pairs.{EntryStandsFor}
 use Rattle.undoing.specs.Carrying.{with_all_put, taken_all}
 use Rattle.undoing.proofs.CallerLemmas.{pending-stands, taken_all-elements}
 use Rattle.snapshot.specs.Pending.{pairs_since}
-use Rattle.snapshot.specs.Touched.{is_among}
 use Rattle.snapshot.proofs.PutLaws.{all-rise}
 use Rattle.snapshot.proofs.PlanLaws.{plan-step, stands-over}
 use Rattle.snapshot.proofs.snapshot.Snapshot.plan_capture.Goals as goal
