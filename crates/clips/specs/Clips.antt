@@ -41,13 +41,6 @@ pub record IsClipWith (text : List ℕ) (members : List Pair) (values : List (Li
   pub kind : IsClipboard members
   pub items : HasItems (value_unless_null (codes "elements") members) values
 
--- The elements that the values are read as, without deleted ones; their ids are distinct.
-pub record AreLiveOf (values : List (List ℕ)) (live : List Placed) : Type 0 where
-  pub placed : List Placed
-  pub read : AreReadFrom 0 values placed
-  pub live_is : live ≡ live_in placed
-  pub distinct : first_repeat (live_in placed) ≡ None
-
 -- the first fault among the elements: one has a fault, or one that isn't deleted has the id of an
 -- earlier such one
 abbrev pub IsElementsFault : List (List ℕ) → ClipFault → Type 0

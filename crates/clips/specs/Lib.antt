@@ -1,3 +1,4 @@
 pub mod Clips
 pub mod Faults
 pub mod Placed
+pub mod inner

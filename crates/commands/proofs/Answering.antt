@@ -4,7 +4,8 @@ use Rattle.board_ends.specs.Counts.{Rose}
 use Rattle.board_ends.specs.Ends.{SourceEnd, SinkEnd}
 use Rattle.commands.specs.Answers.{IsAnswer}
 use Rattle.commands.specs.inner.Causes.{HasCause}
-use Rattle.commands.specs.Ends.{Span, span, limit_of, GaveTooMuch, GaveWithin, HasLeft, IsInputFault, WasAnswered, WasDoneInPart, WasRead, WasRefused}
+use Rattle.commands.specs.Ends.{Span, span, limit_of, GaveTooMuch, GaveWithin, HasLeft, WasAnswered, WasDoneInPart, WasRead, WasRefused}
+use Rattle.commands.specs.inner.Ends.{IsInputFault}
 use Rattle.commands.specs.Faults.{status_of}
 use Rattle.commands.specs.declared.status.Status.TheVariants as status
 use Rattle.commands.specs.declared.status.Fault.{Fault}

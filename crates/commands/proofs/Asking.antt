@@ -8,7 +8,8 @@ use Rattle.std.proofs.lemmas.Option.{none-some, same_Some}
 use Rattle.json_text.proofs.CallerLemmas.{bytes_eq-true}
 use Rattle.scene_file.specs.declared.layout.Layout.{Layout}
 use Rattle.scene_file.specs.declared.layout.Layout.TheVariants.{Compact, Pretty}
-use Rattle.commands.specs.Services.{IsDrillWithinLimits, IsKeeping, IsService, drill_of, keeping_of, number_within, is_number_within, service_of}
+use Rattle.commands.specs.Services.{IsDrillWithinLimits, drill_of, keeping_of, number_within, is_number_within, service_of}
+use Rattle.commands.specs.inner.Services.{IsKeeping, IsService}
 use Rattle.commands.specs.Words.{HasNames, asked, asked_alone, asked_command, asked_drill, asked_begins, asked_form, asked_insert, asked_keeping, asked_layout, asked_paste, asked_plain, asked_room, asked_service, is_name, room_of_words, words_of}
 use Rattle.commands.specs.declared.status.Fault.{Fault}
 use Rattle.commands.specs.declared.status.Fault.TheVariants as fault

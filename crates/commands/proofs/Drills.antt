@@ -26,7 +26,8 @@ use Rattle.workload.specs.Drills.{last_events}
 use Rattle.workload.specs.Facts.{IsDrill, IsOfReplicas, PicksAll}
 use Rattle.view.specs.Shown.{live_elements}
 use Rattle.workload.specs.Texts.{drill_text, rising, falling}
-use Rattle.commands.specs.Drills.{IsDrilled, of_first, of_report, of_world, show_one_scene, summary_text}
+use Rattle.commands.specs.Drills.{IsDrilled, of_first, of_world, show_one_scene, summary_text}
+use Rattle.commands.specs.inner.Drills.{of_report}
 use Rattle.commands.specs.declared.words.Drill.{Drill}
 
 -- ---- what is told of a report is told of its world

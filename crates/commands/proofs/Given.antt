@@ -2,7 +2,8 @@
 use Rattle.std.proofs.Common.{◌≡◌, ℕ, ◌≤◌, List, [], ◌++◌, length, Option, Some, None, IsSome, IfSome, sym, ap, arith, ◌∙◌, length-append, append-nil}
 use Rattle.std.specs.Option.{option_map}
 use Rattle.board_ends.specs.Ends.{SourceEnd}
-use Rattle.commands.specs.Ends.{Span, span, GaveWithin, GaveTooMuch, WasRead, HasLeft, IsInputFault, IsNeverRefused}
+use Rattle.commands.specs.Ends.{Span, span, GaveWithin, GaveTooMuch, WasRead, HasLeft}
+use Rattle.commands.specs.inner.Ends.{IsInputFault, IsNeverRefused}
 use Rattle.commands.specs.declared.status.Fault.{Fault}
 use Rattle.commands.specs.declared.status.Fault.TheVariants as fault
 use Rattle.commands.specs.declared.status.InputRefusal.{InputRefusal}

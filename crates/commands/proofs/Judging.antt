@@ -3,8 +3,9 @@ use Rattle.std.proofs.Common.{◌≡◌, ℕ, List, Option, Err, Result, refl}
 use Rattle.board_base.specs.declared.stop.Stop.{Stop}
 use Rattle.board_base.specs.declared.stop.Stop.TheVariants as stop
 use Rattle.board_ends.specs.Ends.{SourceEnd}
-use Rattle.commands.specs.Ends.{Span, WasRead, IsInputFault}
-use Rattle.commands.specs.Faults.{stopped}
+use Rattle.commands.specs.Ends.{Span, WasRead}
+use Rattle.commands.specs.inner.Ends.{IsInputFault}
+use Rattle.commands.specs.inner.Faults.{stopped}
 use Rattle.commands.specs.declared.status.InputRefusal.{InputRefusal}
 
 -- what a call with a value of this type gave that stopped so

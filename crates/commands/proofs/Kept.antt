@@ -5,7 +5,8 @@ use Rattle.board_ends.specs.Counts.{Rose}
 use Rattle.board_ends.specs.Ends.{SinkEnd}
 use Rattle.room_disk.specs.declared.keep_end.KeepEnd.{KeepEnd}
 use Rattle.room_disk.specs.declared.keep_end.KeepEnd.TheVariants.{AllClosed, Idle, LinkFault, LinksFull, EventsFull, JournalFault, Memory}
-use Rattle.commands.specs.Ends.{Span, GaveTooMuch, HasLeft, IsInputFault, WasRead}
+use Rattle.commands.specs.Ends.{Span, GaveTooMuch, HasLeft, WasRead}
+use Rattle.commands.specs.inner.Ends.{IsInputFault}
 use Rattle.commands.specs.Faults.{status_of, IsNoted, Noted}
 use Rattle.commands.specs.Keeping.{BeginsWith, EndsKeeping, IsBeginsRefusal, IsUntouched, KeepsInput, WasBeginsRefused, WasKeptTo, kept_line, kept_status, limit_from}
 use Rattle.commands.specs.Serving.{Ends}

@@ -9,7 +9,7 @@ use Rattle.room_core.specs.declared.limits.ServeEnd.{ServeEnd}
 use Rattle.room_core.specs.declared.limits.ServeEnd.TheVariants.{LinkFault, Memory}
 use Rattle.room_core.specs.declared.limits.RoomLimits.{RoomLimits}
 use Rattle.room_core.proofs.CallerLemmas.{tells-twice}
-use Rattle.commands.specs.Services.{IsService}
+use Rattle.commands.specs.inner.Services.{IsService}
 use Rattle.commands.specs.declared.words.Service.{Service}
 
 above : (n : ℕ) → 1 ≤ n → nat_le n 0 ≡ false

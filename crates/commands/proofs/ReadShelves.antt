@@ -11,7 +11,8 @@ use Rattle.library.specs.Libraries.{HaveItems}
 use Rattle.library.specs.Reading.{IsLibraryOf}
 use Rattle.library.specs.declared.fault.LibFault.{LibFault}
 use Rattle.library.specs.declared.item.Item.{Item}
-use Rattle.commands.specs.Shelves.{HasTexts, IsShelfRefusal, SayShelf, ShelfSoFar, shelf_refusal_of, shelf_seen}
+use Rattle.commands.specs.Shelves.{HasTexts, IsShelfRefusal}
+use Rattle.commands.specs.inner.Shelves.{SayShelf, ShelfSoFar, shelf_refusal_of, shelf_seen}
 
 pub have-more : (texts : List (List ℕ)) (items : List Item) (text : List ℕ) (own : List Item) → HaveItems texts items
     → IsLibraryOf text own → HaveItems (texts ++ text ∷ []) (items ++ own)

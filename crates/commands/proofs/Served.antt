@@ -10,7 +10,8 @@ use Rattle.commands.specs.Answers.{IsRefusal}
 use Rattle.commands.specs.Ends.{Span, GaveTooMuch, HasLeft, WasRead, limit}
 use Rattle.commands.specs.Faults.{status_of, IsNoted, Noted}
 use Rattle.commands.specs.Input.{HasScenes}
-use Rattle.commands.specs.Serving.{Ends, WasServed, WasServedTo, WasInputRefused, EndsServing, HasServingCause, ServesInput, end_line, end_status}
+use Rattle.commands.specs.Serving.{Ends, WasServed, WasServedTo, WasInputRefused, EndsServing, ServesInput, end_line, end_status}
+use Rattle.commands.specs.inner.Serving.{HasServingCause}
 use Rattle.commands.specs.declared.status.Fault.{Fault}
 use Rattle.commands.specs.declared.status.Fault.TheVariants as fault
 use Rattle.commands.specs.declared.status.Status.{Status}

@@ -8,8 +8,6 @@ use Rattle.scene_file.specs.Scenes.{scene_text}
 use Rattle.session.specs.Clashes.{HaveClashes}
 use Rattle.session.specs.Reports.{shown_at}
 use Rattle.session.specs.Worlds.{Seat, World, all_elements, head_of, last_world}
-use Rattle.session.specs.declared.report.Report.{Report}
-use Rattle.session.specs.declared.report.ReplicaReport.{ReplicaReport}
 use Rattle.session_text.specs.Sessions.{IsSessionOf}
 use Rattle.session_text.specs.declared.session.Session.{Session}
 use Rattle.view.specs.Shown.{live_elements}
@@ -60,18 +58,6 @@ summary_text drill told =
     ++ (codes "live " ++ (decimal told.live ++ (newline
     ++ (codes "clashes " ++ (decimal told.clashes
     ++ (newline ++ equal_line told.same))))))))))))))))))))))
-
--- what is told of a report
-abbrev pub of_report : Report → Summary
-of_report report = record {
-  replicas = length report.replicas;
-  messages = report.messages;
-  refused = length report.refused;
-  stored = of_first (λ (replica : ReplicaReport). replica.stored) report.replicas;
-  live = of_first (λ (replica : ReplicaReport). replica.live) report.replicas;
-  clashes = report.clashes;
-  same = show_one_scene (λ (replica : ReplicaReport). replica.scene) report.replicas;
-}
 
 -- what is told of a session's world with so many clashes
 abbrev pub of_world : Session → World → ℕ → Summary

@@ -57,24 +57,6 @@ pub record HasLeft (most : Option ℕ) (before : SourceEnd) (bytes : List ℕ) :
   pub told : before.left ≡ Some bytes
   pub within : IsWithin most (length bytes)
 
--- no bytes are refused
-abbrev pub IsNeverRefused : List ℕ → InputRefusal → Type 0
-IsNeverRefused bytes found = ⊥
-
--- What a fault of reading an input comes from, which is refused so: a failure to read where the
--- input's count of faults rose; more bytes than the limit; or bytes that were read to their end and
--- are to be refused.
-abbrev pub IsInputFault : Option ℕ → (List ℕ → InputRefusal → Type 0) → Span SourceEnd → Fault
-    → Type 0
-IsInputFault most IsRefused input fault.Memory = Unit {0}
-IsInputFault most IsRefused input fault.Usage = ⊥
-IsInputFault most IsRefused input fault.Read =
-    Rose input.before.faults input.after.faults × GaveWithin most input
-IsInputFault most IsRefused input fault.TooLong = GaveTooMuch most input
-IsInputFault most IsRefused input (fault.Refused found) =
-    (bytes : List ℕ) × WasRead most input bytes × IsRefused bytes found
-IsInputFault most IsRefused input fault.Write = ⊥
-
 -- The command answers the input, which was read to its end, with a text, of which so much was
 -- written.
 pub record WasAnswered (command : ProgramCommand) (input : Span SourceEnd) (output : Span SinkEnd)

@@ -1,6 +1,5 @@
 -- What faults there are, how a run with one ends, and the line that tells it. This project's own.
 use Rattle.std.specs.Prelude.{ℕ, ◌≤◌, List, [], ◌∷◌, ◌++◌, ◌⊎◌, length, take, codes, decimal}
-use Rattle.board_base.specs.declared.stop.Stop.{Stop}
 use Rattle.board_base.specs.declared.stop.Stop.TheVariants as stop
 use Rattle.board_ends.specs.Counts.{Rose}
 use Rattle.board_ends.specs.Ends.{SinkEnd, Took}
@@ -13,7 +12,6 @@ use Rattle.commands.specs.declared.status.Status.{Status}
 use Rattle.commands.specs.declared.status.Status.TheVariants as status
 use Rattle.commands.specs.declared.status.Fault.{Fault}
 use Rattle.commands.specs.declared.status.Fault.TheVariants as fault
-use Rattle.commands.specs.declared.status.InputRefusal.{InputRefusal}
 use Rattle.commands.specs.declared.status.InputRefusal.TheVariants as refusal
 
 -- the end of a line, U+000A
@@ -39,11 +37,6 @@ status_of fault.Read = status.ReadFault
 status_of fault.TooLong = status.Refused
 status_of (fault.Refused found) = status.Refused
 status_of fault.Write = status.WriteFault
-
--- the fault of a run over bytes that are refused, or for which memory is wanted
-abbrev pub stopped : Stop InputRefusal → Fault
-stopped (stop.Fault found) = fault.Refused found
-stopped stop.Memory = fault.Memory
 
 -- the line that tells these words of the text with this number
 abbrev pub text_line : ℕ → List ℕ → List ℕ

@@ -32,12 +32,6 @@ service_of (Some port) (Some links) (Some idle) (Some layout) =
     })
 service_of port links idle layout = None
 
--- Each of its limits is at least 1.
-pub record IsService (service : Service) : Type 0 where
-  pub links : 1 ≤ service.limits.links
-  pub idle : 1 ≤ service.limits.idle
-  pub events : 1 ≤ service.limits.events
-
 -- the durable room with these numbers that begins with this, where all are there
 abbrev pub keeping_of : Option ℕ → Option ℕ → Option ℕ → Option Begins → Option Keeping
 keeping_of (Some port) (Some links) (Some idle) (Some begins) =
@@ -47,12 +41,6 @@ keeping_of (Some port) (Some links) (Some idle) (Some begins) =
       begins = begins;
     })
 keeping_of port links idle begins = None
-
--- Each of its limits is at least 1.
-pub record IsKeeping (keeping : Keeping) : Type 0 where
-  pub links : 1 ≤ keeping.limits.links
-  pub idle : 1 ≤ keeping.limits.idle
-  pub events : 1 ≤ keeping.limits.events
 
 -- the drill with these numbers, where both are there
 abbrev pub drill_of : Option ℕ → Option ℕ → Option Drill

@@ -13,7 +13,7 @@ use Rattle.room_core.specs.declared.limits.ServeEnd.{ServeEnd}
 use Rattle.room_core.specs.declared.limits.ServeEnd.TheVariants.{AllClosed, Idle as IdleEnd, LinkFault as LinkEnd, LinksFull, EventsFull, Memory as MemoryEnd}
 use Rattle.commands.specs.Answers.{IsRefusal}
 use Rattle.commands.specs.Boards.{IsBoardOf, IsSceneOfStored}
-use Rattle.commands.specs.Ends.{Span, GaveWithin, GaveTooMuch, WasRead, IsInputFault, limit}
+use Rattle.commands.specs.Ends.{Span, GaveWithin, GaveTooMuch, WasRead, limit}
 use Rattle.commands.specs.Faults.{newline, status_of, Noted, IsNoted}
 use Rattle.commands.specs.Input.{HasScenes}
 use Rattle.commands.specs.declared.status.Fault.{Fault}
@@ -116,12 +116,6 @@ end_line LinkEnd = codes "board: link fault" ++ newline
 end_line LinksFull = codes "board: room: links full" ++ newline
 end_line EventsFull = codes "board: room: events full" ++ newline
 end_line MemoryEnd = codes "board: out of memory" ++ newline
-
--- What a run that serves a room and ends with a fault comes from: a failure to write where the
--- output's count of faults rose; every other fault is one of reading the input.
-abbrev pub HasServingCause : Fault → Service → Ends → Type 0
-HasServingCause fault.Write service ends = WasServedInPart service ends
-HasServingCause found service ends = IsInputFault limit IsRefusal ends.input found
 
 -- How a run that serves a room ends, by its status. Each end of the room is told by its line; of an
 -- input that is refused, and of one that can't be read, nothing is served and nothing written.

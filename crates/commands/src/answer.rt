@@ -6,7 +6,8 @@ ghost use Rattle.session.specs.Printed.{IsReportText};
 ghost use Rattle.session_text.specs.Facts.{IsSession};
 ghost use Rattle.commands.specs.Answers.{IsAnswer, IsShownAs, IsStoredAs, HasPictures};
 ghost use Rattle.commands.specs.Boards.{IsBoardOf, IsSceneOfStored};
-ghost use Rattle.commands.specs.Ends.{span, limit_of, IsInputFault, IsRefusalOf, WasRead};
+ghost use Rattle.commands.specs.Ends.{span, limit_of, IsRefusalOf, WasRead};
+ghost use Rattle.commands.specs.inner.Ends.{IsInputFault};
 ghost use Rattle.commands.specs.Faults.{newline};
 
 use crate::input::{one_scene, session, some_board, some_shelf, whole};

@@ -9,7 +9,8 @@ ghost use Rattle.session.specs.declared.report.ReplicaReport.{ReplicaReport};
 ghost use Rattle.session_text.specs.Facts.{IsSession};
 ghost use Rattle.session_text.specs.Sessions.{IsSessionOf};
 ghost use Rattle.workload.specs.Texts.{drill_text};
-ghost use Rattle.commands.specs.Drills.{of_first, of_report, show_one_scene, summary_text, IsDrilled};
+ghost use Rattle.commands.specs.Drills.{of_first, show_one_scene, summary_text, IsDrilled};
+ghost use Rattle.commands.specs.inner.Drills.{of_report};
 ghost use Rattle.commands.specs.Services.{IsDrillWithinLimits};
 ghost use Rattle.commands.specs.declared.status.Fault.{Fault};
 

@@ -10,11 +10,13 @@ ghost use Rattle.session_text.specs.Sessions.{IsSessionOf};
 ghost use Rattle.scene_file.specs.declared.scene.Scene.{Scene};
 ghost use Rattle.commands.specs.Answers.{IsOneRefusal, IsRefusal, IsSessionRefusal};
 ghost use Rattle.commands.specs.Boards.{IsBoardOf};
-ghost use Rattle.commands.specs.Ends.{span, limit, IsInputFault, IsNeverRefused, WasRead};
+ghost use Rattle.commands.specs.Ends.{span, limit, WasRead};
+ghost use Rattle.commands.specs.inner.Ends.{IsInputFault, IsNeverRefused};
 ghost use Rattle.commands.specs.Input.{HasScenes};
 ghost use Rattle.commands.specs.inner.Readers.{refusal_of};
 ghost use Rattle.commands.specs.inner.SessionTexts.{session_refusal_of};
-ghost use Rattle.commands.specs.Shelves.{HasTexts, IsShelfRefusal, shelf_refusal_of};
+ghost use Rattle.commands.specs.Shelves.{HasTexts, IsShelfRefusal};
+ghost use Rattle.commands.specs.inner.Shelves.{shelf_refusal_of};
 ghost use Rattle.commands.specs.declared.status.InputRefusal.{InputRefusal};
 
 use crate::status::{Fault, InputRefusal};

@@ -3,11 +3,12 @@
 ghost use Rattle.std.specs.Prelude.{◌≡◌, ◌≢◌, ◌⊎◌, ℕ, All, List as Items, IfOk, IfErr};
 ghost use Rattle.elem_read.specs.Reading.{IsWholeElement};
 ghost use Rattle.scene_file.specs.Whole.{IsWholeHead, HaveKeys};
-ghost use Rattle.commands.specs.Ends.{span, IsInputFault, WasRead};
+ghost use Rattle.commands.specs.Ends.{span, WasRead};
+ghost use Rattle.commands.specs.inner.Ends.{IsInputFault};
 ghost use Rattle.commands.specs.Faults.{IsNoted};
 ghost use Rattle.commands.specs.Keeping.{BeginsWith, IsBeginsRefusal, WasKeptTo, kept_line, kept_status, limit_from};
 ghost use Rattle.commands.specs.Serving.{ends};
-ghost use Rattle.commands.specs.Services.{IsKeeping};
+ghost use Rattle.commands.specs.inner.Services.{IsKeeping};
 
 use crate::input::some_board;
 use crate::recovering::recovered;

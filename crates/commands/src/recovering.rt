@@ -2,7 +2,8 @@
 
 ghost use Rattle.std.specs.Prelude.{◌≡◌, ℕ, List as Items, None, Ok, IfOk, IfErr};
 ghost use Rattle.room_disk.specs.Recovering.{IsRecoveredAs};
-ghost use Rattle.commands.specs.Ends.{span, IsInputFault, WasRead};
+ghost use Rattle.commands.specs.Ends.{span, WasRead};
+ghost use Rattle.commands.specs.inner.Ends.{IsInputFault};
 ghost use Rattle.commands.specs.Journals.{IsJournalRefusal, IsToldAs};
 
 use crate::answer::{ended, shown_text};

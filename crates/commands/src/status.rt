@@ -112,7 +112,7 @@ impl From<AllocError> for Fault {
 
 impl From<Stop<InputRefusal>> for Fault {
     ghost use Rattle.std.specs.Prelude.{◌≡◌};
-    ghost use Rattle.commands.specs.Faults.{stopped};
+    ghost use Rattle.commands.specs.inner.Faults.{stopped};
 
     ghost from_gives = { λ stop fault. fault ≡ stopped stop };
 

@@ -4,7 +4,7 @@ ghost use Rattle.std.specs.Prelude.{◌≡◌, ◌+◌, ◌++◌, ◌∷◌, [],
 ghost use Rattle.library.specs.Best.{AreBest};
 ghost use Rattle.library.specs.declared.item.Item.{Item as ItemValue};
 ghost use Rattle.commands.specs.inner.Readers.{SayBoard, board_seen, one_seen};
-ghost use Rattle.commands.specs.Shelves.{SayShelf, shelf_seen};
+ghost use Rattle.commands.specs.inner.Shelves.{SayShelf, shelf_seen};
 ghost use Rattle.commands.specs.inner.SessionTexts.{session_seen};
 
 use crate::heads::Heads;
@@ -127,7 +127,7 @@ pub(crate) struct Shelved {
 
 impl Model for Shelved {
     ghost use Rattle.std.specs.Prelude.{◌≤◌};
-    ghost use Rattle.commands.specs.Shelves.{ShelfSoFar};
+    ghost use Rattle.commands.specs.inner.Shelves.{ShelfSoFar};
 
     ghost Value = { ShelfSoFar };
 

@@ -27,10 +27,9 @@ use std::alloc::{AllocError, Global};
 use std::cmp::Ordering;
 
 /// The elements that a command changes on a board, as they become, in the order of their ids; or
-/// why it is refused. Each that changes is stamped with the time and the nonce. The board itself
-/// stays: whoever calls stores the elements. It looks only at the elements that the command
-/// names, at those that name them or are named by them, and, where keys or names may be
-/// unsettled, at these.
+/// why it is refused. Each that changes has this stamp. The board itself stays: whoever calls
+/// stores the elements. It looks only at the elements that the command names, at those that name
+/// them or are named by them, and, where keys or names may be unsettled, at these.
 pub fn changed(
     alloc: Global,
     lookup: &Lookup<'_>,

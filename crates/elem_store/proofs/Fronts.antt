@@ -5,7 +5,7 @@ use Rattle.board_base.specs.Fronts.{front_of}
 use Rattle.board_base.proofs.CallerLemmas.{fronts-decide}
 use Rattle.elem.specs.ElementValue.{ElementValue}
 use Rattle.elem_store.specs.inner.Fronts.{front_at}
-use Rattle.elem_store.specs.Places.{order_at}
+use Rattle.elem_store.specs.inner.Places.{order_at}
 
 -- an element is told apart from an id by its front
 pub placed-decides : (c : Ordering) → Equal ≢ c → (elements : List ElementValue) (place : ℕ) (id known : List ℕ)

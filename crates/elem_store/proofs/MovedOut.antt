@@ -7,7 +7,8 @@ use Rattle.std.proofs.lemmas.List.{get_or-set_other, take_more}
 use Rattle.std.proofs.lemmas.List.Elements.{filter_map-append}
 use Rattle.std.proofs.lemmas.Option.{slice_get_within, get_or_from_slice_get}
 use Rattle.elem.specs.ElementValue.{ElementValue}
-use Rattle.elem_store.specs.Places.{elements_at, slot_at, with_empty_at, AreInOrder}
+use Rattle.elem_store.specs.Places.{elements_at, AreInOrder}
+use Rattle.elem_store.specs.inner.Places.{slot_at, with_empty_at}
 use Rattle.elem_store.proofs.Placed.{AllWithin, get-at, places_differ}
 
 filled : (elements : List ElementValue) (place : ℕ) → get_or (map Some elements) place None ≡ slice_get elements place

@@ -18,7 +18,8 @@ use Rattle.frac_keys.specs.Rising.{are_rising}
 use Rattle.elem.specs.ElementValue.{ElementValue}
 use Rattle.elem.specs.Order.{beats}
 use Rattle.elem_store.specs.Updates.{element_of, ids_of, is_taken, HasTaken}
-use Rattle.elem_store.specs.Places.{elements_at, order_at, AreInOrder, IsAt, IsBetween, IsGapFor}
+use Rattle.elem_store.specs.Places.{elements_at, AreInOrder, IsAt, IsGapFor}
+use Rattle.elem_store.specs.inner.Places.{order_at, IsBetween}
 use Rattle.elem_store.proofs.Rising.{earlier_less, less-less, less-other}
 use Rattle.elem_store.proofs.Edits.{element-at, is_taken-at, HasTaken-set, HasTaken-not, HasTaken-insert}
 

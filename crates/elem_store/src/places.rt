@@ -4,7 +4,8 @@ ghost use Rattle.std.specs.Prelude.{◌≡◌, ◌+◌, ◌<◌, ◌≤◌, ◌�
 ghost use Rattle.elem.specs.Order as order;
 ghost use Rattle.board_base.specs.Fronts.{front_of};
 ghost use Rattle.elem_store.specs.inner.Indexed.{woven, AreAside, AreGaps};
-ghost use Rattle.elem_store.specs.Places.{elements_at, slot_at, with_empty_at, AreInOrder, IsAt, IsBetween, IsGapFor};
+ghost use Rattle.elem_store.specs.Places.{elements_at, AreInOrder, IsAt, IsGapFor};
+ghost use Rattle.elem_store.specs.inner.Places.{slot_at, with_empty_at, IsBetween};
 
 use crate::indexed::{Late, Places};
 use crate::shelf::Shelf;

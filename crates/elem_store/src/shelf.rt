@@ -3,7 +3,7 @@
 ghost use Rattle.std.specs.Prelude.{◌≡◌, ◌+◌, ◌-◌, ◌<◌, ◌≤◌, [], ◌∷◌, ◌++◌, length, slice_get, slice_set, option_copied, map, Some, IfSome, IfOk, IfErr, OnOk, IsOk};
 ghost use Rattle.board_base.specs.Fronts.{front_of};
 ghost use Rattle.elem.specs.Facts.{IsElement};
-ghost use Rattle.elem_store.specs.Places as places;
+ghost use Rattle.elem_store.specs.inner.Places as places;
 
 use board_base::{Front, bytes_order, front_of};
 use elem::Element;

@@ -16,7 +16,8 @@ use Rattle.history.specs.declared.planned.Plan.{Plan}
 use Rattle.history.specs.declared.step.Step.{Step}
 use Rattle.history.specs.declared.step.Step.TheVariants as steps
 use Rattle.history.specs.inner.Places.{IsSeenAt}
-use Rattle.history.specs.Stacks.{Stacks, AreUnseen, IsTopmostSeen, HasStepped, HasTakenBack, StopsAt, IsPlanned, FitsIn, noted, put_step, with_entry, redo_left, below_last, grown_by, side, stepped}
+use Rattle.history.specs.Stacks.{Stacks, AreUnseen, IsTopmostSeen, HasStepped, HasTakenBack, StopsAt, FitsIn, noted, put_step, with_entry, redo_left, below_last, grown_by, side, stepped}
+use Rattle.history.specs.inner.Stacks.{IsPlanned}
 use Rattle.history.specs.Steps.{IsSeen, IsStep, IsLeastFull}
 
 -- ---- lists

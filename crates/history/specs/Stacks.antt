@@ -11,7 +11,6 @@ use Rattle.delta.specs.declared.stamping.VersionFull.{VersionFull}
 use Rattle.history.specs.declared.planned.Direction.{Direction}
 use Rattle.history.specs.declared.planned.Direction.TheVariants.{Undo, Redo}
 use Rattle.history.specs.declared.planned.HistoryStep.{HistoryStep}
-use Rattle.history.specs.declared.planned.Plan.{Plan}
 use Rattle.history.specs.Steps.{IsStep, IsLeastFull, IsSeen}
 
 -- the entries of a history, the next one to undo or to redo last
@@ -145,13 +144,3 @@ abbrev pub FitsIn : HistoryStep → Stacks → Type 0
 FitsIn step stacks =
     IfSome step.made (λ made. step.passed < length
     (side step.direction (noted step.pending stacks)))
-
--- what is planned for a stack: nothing where no entry is seen, or the step from the topmost one
-pub record IsPlanned (store : List ElementValue) (stamp : Stamp) (stack : List (List Delta))
-    (plan : Plan) : Type 0 where
-  pub below : List (List Delta)
-  pub parts : List Delta
-  pub above : List (List Delta)
-  pub topmost : IsTopmostSeen store stack below parts above
-  pub count : plan.passed ≡ length above
-  pub step : IsStep parts store stamp.time stamp.nonce plan.given plan.made

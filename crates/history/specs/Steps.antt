@@ -1,6 +1,6 @@
 -- One step: an entry is taken back from the stored elements. This project's own, after Excalidraw's
 -- history.
-use Rattle.std.specs.Prelude.{◌≡◌, ◌≢◌, ◌⊎◌, ℕ, List, true, false, Option, Some, None, Contains}
+use Rattle.std.specs.Prelude.{◌≡◌, ◌≢◌, ◌⊎◌, ℕ, List, true, false, Some, Contains}
 use Rattle.frac_keys.specs.Keys.{bytes_less}
 use Rattle.frac_keys.specs.Rising.{are_rising}
 use Rattle.elem.specs.ElementValue.{ElementValue}
@@ -96,24 +96,3 @@ pub record IsStep (parts : List Delta) (store : List ElementValue) (time nonce :
   pub gives : AreGiven parts store time nonce given
   pub undoes : EntryStandsFor made (pairs_from (element_of store) given)
   pub none_full : (id : List ℕ) → ¬ (IsFullId parts store id)
-
--- The inverse of the part makes of the stored element that one but for the stamp.
-pub record StaysSame (part : Delta) (now : ElementValue) : Type 0 where
-  pub reverted : ElementValue
-  pub reverts : Reverts part now reverted
-  pub same : unstamped now ≡ unstamped reverted
-
--- This is the new version of the stored element: what the inverse of the part makes of it differs,
--- and no version is full.
-pub record IsNewVersion (part : Delta) (now : ElementValue) (time nonce : ℕ)
-    (e : ElementValue) : Type 0 where
-  pub reverted : ElementValue
-  pub reverts : Reverts part now reverted
-  pub differs : Differ now reverted
-  pub room : now.version ≢ greatest_whole
-  pub is : e ≡ stamped time nonce reverted
-
--- What comes of one part: nothing where the stored element stays, and else its new version.
-abbrev pub ComesOf : Delta → ElementValue → ℕ → ℕ → Option ElementValue → Type 0
-ComesOf part now time nonce None = StaysSame part now
-ComesOf part now time nonce (Some e) = IsNewVersion part now time nonce e

@@ -2,7 +2,8 @@
 
 ghost use Rattle.std.specs.Prelude.{◌≡◌, ◌↔◌, ◌≤◌, ◌<◌, List as Items, [], Ok, IsOk, None, length, IfOk, IfErr, IfSome, OnOk, OnErr};
 ghost use Rattle.elem.specs.ElementValue.{ElementValue};
-ghost use Rattle.history.specs.Stacks.{HasStoredIds, HaveStoredIds, AreUnseen, HasTakenBack, IsPlanned, StopsAt, OnFull, FitsIn, noted, put_step, side};
+ghost use Rattle.history.specs.Stacks.{HasStoredIds, HaveStoredIds, AreUnseen, HasTakenBack, StopsAt, OnFull, FitsIn, noted, put_step, side};
+ghost use Rattle.history.specs.inner.Stacks.{IsPlanned};
 
 use crate::planned::{Direction, HistoryStep, Plan, note_within, shift, step_of};
 use crate::step::{Step, is_nothing, plan_back, plan_noted};
@@ -94,8 +95,8 @@ impl History {
 
     /// Plans to note what is pending and then to undo or to redo. The step and the answer are those
     /// of these two calls: the topmost entry of the stack that is seen is taken back from the
-    /// stored elements, and those that change are given, stamped with this time and nonce, in the
-    /// order of their ids. `Nothing` comes exactly where no entry is seen. `VersionFull` names the
+    /// stored elements, and those that change are given, with this stamp, in the order of their
+    /// ids. `Nothing` comes exactly where no entry is seen. `VersionFull` names the
     /// least id of those that would change and stand at the greatest version.
     pub fn plan(
         &self,

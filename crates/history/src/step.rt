@@ -8,8 +8,10 @@ ghost use Rattle.delta.specs.Facts.{part_ids};
 ghost use Rattle.delta.specs.Parts.{PartStandsFor};
 ghost use Rattle.elem_store.specs.Updates.{element_of};
 ghost use Rattle.history.specs.inner.Places.{IsSeenAt};
-ghost use Rattle.history.specs.Stacks.{HasStoredIds, HaveStoredIds, AreUnseen, IsPlanned, StopsAt, OnFull, with_entry};
-ghost use Rattle.history.specs.Steps.{IsStep, IsFull, IsLeastFull, IsSeen, IsSeenPart, ComesOf, Differ, Reverts};
+ghost use Rattle.history.specs.Stacks.{HasStoredIds, HaveStoredIds, AreUnseen, StopsAt, OnFull, with_entry};
+ghost use Rattle.history.specs.inner.Stacks.{IsPlanned};
+ghost use Rattle.history.specs.Steps.{IsStep, IsFull, IsLeastFull, IsSeen, IsSeenPart, Differ, Reverts};
+ghost use Rattle.history.specs.inner.Steps.{ComesOf};
 
 use crate::planned::Plan;
 use board_base::{List, Stop};

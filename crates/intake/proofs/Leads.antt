@@ -13,7 +13,8 @@ use Rattle.json_reader.specs.declared.fault.JsonFault.TheVariants.{Syntax}
 use Rattle.json_text.proofs.CallerLemmas.{prefix-run, run-more}
 use Rattle.json_reader.proofs.CallerLemmas.{behind-blank, blank-behind}
 use Rattle.intake.specs.declared.reading.Stopped.{Stopped}
-use Rattle.intake.specs.Texts.{Reading, TextsLead, HasReadTo, HasTexts, HasFaultBehind, HasRefusedBehind, HasExtraBehind, IsStopped, AreRead, IsLed, StandsIn}
+use Rattle.intake.specs.Texts.{Reading, TextsLead, HasReadTo, HasTexts, HasFaultBehind, HasRefusedBehind, HasExtraBehind, IsStopped, AreRead}
+use Rattle.intake.specs.inner.Texts.{IsLed, StandsIn}
 use Rattle.intake.proofs.Blanks.{blank-more, blank-both, stands-begun, first-more}
 
 -- A value stands behind texts that lead up to it.

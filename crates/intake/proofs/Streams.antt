@@ -5,7 +5,8 @@ use Rattle.board_ends.specs.Ends.{SourceEnd, Gave}
 use Rattle.board_ends.proofs.CallerLemmas.{Gave-more}
 use Rattle.json_reader.specs.Feeding.{Feeding}
 use Rattle.intake.specs.declared.reading.Stopped.{Stopped}
-use Rattle.intake.specs.Texts.{Reading, StandsIn}
+use Rattle.intake.specs.Texts.{Reading}
+use Rattle.intake.specs.inner.Texts.{StandsIn}
 
 -- A source gave so many bytes so far, and their texts were read, up to what stopped that.
 pub record HasTaken {F : Type 0} (before after : SourceEnd) (used : ℕ) (feed : Feeding) (reader : Reading F)

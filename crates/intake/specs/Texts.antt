@@ -1,10 +1,9 @@
 -- The texts of an input that comes in pieces. This project's own.
-use Rattle.std.specs.Prelude.{◌≡◌, ◌⊎◌, ℕ, ◌+◌, ◌<◌, ◌≤◌, List, [], ◌∷◌, ◌++◌, Bool, true, false, Option, None, Some, length, drop}
+use Rattle.std.specs.Prelude.{◌≡◌, ◌⊎◌, ℕ, ◌+◌, ◌<◌, ◌≤◌, List, [], ◌∷◌, Bool, true, false, Option, None, Some, length, drop}
 use Rattle.std.specs.List.{prefix_len}
 use Rattle.json_text.specs.Characters.{is_blank, is_space}
 use Rattle.json_text.specs.Value.{Stands}
 use Rattle.json_reader.specs.Faults.{IsFirstFault}
-use Rattle.json_reader.specs.Feeding.{Feeding, IsAt}
 use Rattle.json_reader.specs.declared.fault.JsonFault.{JsonFault}
 use Rattle.intake.specs.declared.reading.Stopped.{Stopped}
 use Rattle.intake.specs.declared.reading.Stopped.TheVariants.{Faulty, Refused, Extra}
@@ -87,23 +86,3 @@ IsStopped bytes reader (Extra place) = HasExtraBehind bytes reader place
 abbrev pub AreRead : {F : Type 0} → List ℕ → Reading F → Option (Stopped F) → Type 0
 AreRead bytes reader None = HasTexts bytes reader
 AreRead bytes reader (Some stopped) = IsStopped bytes reader stopped
-
--- The feed stands in the stream, of which so much is left, behind texts that lead up to there
--- whatever follows; the reader has read these. Behind the last text that it takes nothing but white
--- space was used.
-pub record IsLed {F : Type 0} (stream left : List ℕ) (feed : Feeding)
-    (reader : Reading F) : Type 0 where
-  pub texts : List (List ℕ)
-  pub read : reader.has_read texts
-  pub start : ℕ
-  pub at : IsAt stream start left feed
-  pub lead : (more : List ℕ) → TextsLead (stream ++ more) texts (drop start stream ++ more)
-  pub skipped : reader.is_full ≡ true → feed.rest ≡ []
-
--- The texts of the stream so far, of which so much is left: the reader has read those that have
--- ended; or what stopped it, whatever follows.
-abbrev pub StandsIn : {F : Type 0} → List ℕ → List ℕ → Feeding → Reading F → Option (Stopped F)
-    → Type 0
-StandsIn stream left feed reader None = IsLed stream left feed reader
-StandsIn stream left feed reader (Some stopped) =
-    (more : List ℕ) → IsStopped (stream ++ more) reader stopped

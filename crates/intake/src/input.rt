@@ -4,7 +4,8 @@ ghost use Rattle.std.specs.Prelude.{◌≡◌, ◌≢◌, ℕ, ◌+◌, ◌^◌,
 ghost use Rattle.board_ends.specs.Counts.{Rose};
 ghost use Rattle.board_ends.specs.Ends.{Gave, IsAtEnd};
 ghost use Rattle.board_ends.specs.Reads.{IsReadWithin};
-ghost use Rattle.intake.specs.Texts.{StandsIn, AreRead};
+ghost use Rattle.intake.specs.Texts.{AreRead};
+ghost use Rattle.intake.specs.inner.Texts.{StandsIn};
 
 use crate::reading::{Reader, Stopped, finish, take_piece};
 use board_base::Stop;

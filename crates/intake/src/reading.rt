@@ -1,7 +1,8 @@
 //! Texts that are handed on, one after the other.
 
 ghost use Rattle.std.specs.Prelude.{◌≡◌, ℕ, OnOk, IfOk, ◌+◌, ◌-◌, ◌*◌, ◌^◌, ◌<◌, ◌≤◌, List, [], ◌∷◌, ◌++◌, Ok, Err, min, length, drop, true, false};
-ghost use Rattle.intake.specs.Texts.{Reading, IsLed, IsStopped, StandsIn, AreRead};
+ghost use Rattle.intake.specs.Texts.{Reading, IsStopped, AreRead};
+ghost use Rattle.intake.specs.inner.Texts.{IsLed, StandsIn};
 ghost use Rattle.intake.specs.declared.reading.Stopped.{Stopped};
 
 use board_base::Stop;

@@ -13,7 +13,8 @@ use Rattle.json_text.specs.Characters.{is_plain, quote, quoted_byte}
 use Rattle.json_text.specs.Tree.{Piece, bare, letter, unit, IsPiece, letter_meaning, piece_spelling}
 use Rattle.json_text.specs.Compact.{piece_value, is_high, is_low, paired, lone, characters, content}
 use Rattle.json_text.specs.inner.Spans.{between, StandsQuoted}
-use Rattle.json_text.specs.Walk.{Quoted, Unread, Takes, StartsWithUnit, unit_at}
+use Rattle.json_text.specs.Walk.{Quoted}
+use Rattle.json_text.specs.inner.Walk.{Unread, Takes, StartsWithUnit, unit_at}
 use Rattle.json_text.proofs.Strings.{lone-same, lone-first, paired-scalar, content-utf8, plain-bare, quoted-bare}
 
 -- a piece that is no half of a character stands for its own

@@ -1,9 +1,9 @@
 -- What stands at the front of a text that is walked over: a string, what is left of a string; and
 -- where a walk is.
-use Rattle.std.specs.Prelude.{◌≡◌, ℕ, ◌≤◌, List, ◌∷◌, ◌++◌, drop, length, slice_index, flat_map, Bool, if◌then◌else◌}
+use Rattle.std.specs.Prelude.{◌≡◌, ℕ, List, ◌++◌, Bool, if◌then◌else◌}
 use Rattle.std.specs.List.{AllByRecursion}
-use Rattle.json_text.specs.Tree.{Piece, unit, IsPiece, piece_spelling, string_spelling}
-use Rattle.json_text.specs.Compact.{content, piece_value}
+use Rattle.json_text.specs.Tree.{Piece, IsPiece, string_spelling}
+use Rattle.json_text.specs.Compact.{content}
 
 -- A string for this text stands at the front; the rest follows it. RFC 8259, section 7.
 pub record Quoted (bytes text rest : List ℕ) : Type 0 where
@@ -11,31 +11,6 @@ pub record Quoted (bytes text rest : List ℕ) : Type 0 where
   pub good : AllByRecursion IsPiece pieces
   pub parts : bytes ≡ string_spelling pieces ++ rest
   pub means : content pieces ≡ text
-
--- The rest of a string, for this text, and its closing quotation mark stand at the front. RFC 8259,
--- section 7.
-pub record Unread (bytes text rest : List ℕ) : Type 0 where
-  pub pieces : List Piece
-  pub good : AllByRecursion IsPiece pieces
-  pub parts : bytes ≡ flat_map piece_spelling pieces ++ 34 ∷ rest
-  pub means : content pieces ≡ text
-
--- What stands behind so many bytes is the rest of what stands before them, and was turned into what
--- was appended.
-abbrev pub Takes : (List ℕ → List ℕ → List ℕ → Type 0) → List ℕ → ℕ → List ℕ → List ℕ → Type 0
-Takes Stand bytes count old new = (text after : List ℕ) → Stand bytes text after →
-    (left : List ℕ) × Stand (drop count bytes) left after × (new ++ left ≡ old ++ text)
-
--- the piece of a `\u` that stands at the front
-abbrev pub unit_at : List ℕ → Piece
-unit_at bytes =
-    unit (slice_index bytes 2) (slice_index bytes 3) (slice_index bytes 4) (slice_index bytes 5)
-
--- A `\u` and the four digits of this number stand at the front. RFC 8259, section 7.
-abbrev pub StartsWithUnit : List ℕ → ℕ → Type 0
-StartsWithUnit bytes value =
-    (6 ≤ length bytes) × (slice_index bytes 0 ≡ 92) × (slice_index bytes 1 ≡ 117)
-    × (piece_value (unit_at bytes) ≡ value)
 
 -- outside strings, or in one and perhaps behind a backslash
 pub data Place : Type 0 where

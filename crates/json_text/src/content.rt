@@ -9,7 +9,8 @@ ghost use Rattle.json_text.specs.Tree.{unit, IsPiece};
 ghost use Rattle.json_text.specs.Compact.{lone, piece_value};
 ghost use Rattle.json_text.specs.Compact;
 ghost use Rattle.json_text.specs.Tree;
-ghost use Rattle.json_text.specs.Walk.{Quoted, Unread, Takes, StartsWithUnit, unit_at};
+ghost use Rattle.json_text.specs.Walk.{Quoted};
+ghost use Rattle.json_text.specs.inner.Walk.{Unread, Takes, StartsWithUnit, unit_at};
 
 use crate::runs::run_end;
 use crate::text::{Raw, Text};

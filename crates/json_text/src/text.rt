@@ -44,8 +44,8 @@ impl Model for Raw {
     ghost invariant = { λ r. IsCompact 128 r.bytes };
 }
 
-/// How many members are few: room is made for so many at once, and the names of so many are compared
-/// one by one.
+/// How many members are few: room is made for so many at once, and the names of so many are
+/// compared one by one.
 pub const FEW_MEMBERS: usize = 40;
 
 /// A member of an object.

@@ -121,7 +121,8 @@ pub library-or-fault : (text : List ℕ) → IsCompact 128 text → ((items : Li
 library-or-fault text is = elim (object-or-not text is) [
   | inr none ↦ inr (library.NotObject, λ ms object. none ms object.spelled)
   | inl (ms, are, e) ↦ let object : IsObject text ms = record { are_members = are; spelled = e } in
-      elim (is-text (value_at (codes "type") ms) (codes "excalidrawlib") (fits-in 127 ms (lit≤ tt) are (codes "type"))) [
+      elim (is-text (value_at (codes "type") ms) (codes "excalidrawlib")
+      (fits-in 127 ms (lit≤ tt) are (codes "type"))) [
         | inr none ↦ inr (library.NotLibrary, (ms, object, none))
         | inl kind ↦ elim (array_of-or-not (value_at (codes "libraryItems") ms)
             (fits-in 127 ms (lit≤ tt) are (codes "libraryItems"))) [

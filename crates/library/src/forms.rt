@@ -4,7 +4,6 @@ ghost use Rattle.std.specs.Prelude.{◌≡◌, ◌↔◌, Err, IfOk, IsTrue};
 ghost use Rattle.json_text.specs.Members.{pairs};
 ghost use Rattle.scene_json.specs.Named.{value_at};
 ghost use Rattle.elem.specs.Forms.{IsId, IsNull, IsTextOrNull};
-ghost use Rattle.library.specs.inner.Found.{IsFoundAs};
 ghost use Rattle.elem_read.specs.Faults.{Lacks};
 ghost use Rattle.library.specs.inner.Found.{IsFoundAs};
 ghost use Rattle.library.specs.Reading.{IsArray, IsStatus, IsTime};

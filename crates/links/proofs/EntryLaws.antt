@@ -9,7 +9,8 @@ use Rattle.elem.specs.declared.kind.Role.TheVariants.{Arrow, Text}
 use Rattle.elem.specs.declared.parts.BoundRef.{BoundRef}
 use Rattle.elem.specs.Listings.{same_listing_entry, same_role}
 use Rattle.links.specs.Entries.{lists, first_entries}
-use Rattle.links.specs.Tables.{with_listing_entry, with_entries}
+use Rattle.links.specs.Tables.{with_listing_entry}
+use Rattle.links.specs.inner.Tables.{with_entries}
 
 -- ---- when entries are the same
 same_role-true : (r s : Role) → same_role r s ≡ true → r ≡ s

@@ -10,7 +10,8 @@ use Rattle.std.proofs.lemmas.List.Quantifiers.{all_pairs_remove}
 use Rattle.std.proofs.lemmas.Option.{slice_get_within}
 use Rattle.std.proofs.lemmas.Slice.Eq.{bytes_eq-Decides}
 use Rattle.links.specs.declared.rows.LinkRow.{LinkRow}
-use Rattle.links.specs.Rows.{same_row, has_row, is_earlier, AreRowsRising, rows_at, AreRows, IsGapFor, IsRowAt}
+use Rattle.links.specs.Rows.{same_row, has_row, is_earlier, AreRowsRising, rows_at, AreRows}
+use Rattle.links.specs.inner.Rows.{IsGapFor, IsRowAt}
 use Rattle.links.proofs.Members.{bytes_eq-refl}
 use Rattle.links.proofs.RowPlaces.{less-itself, get-rows-length, length-rows, rows-insert, rows-remove}
 

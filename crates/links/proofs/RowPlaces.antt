@@ -14,7 +14,8 @@ use Rattle.std.proofs.lemmas.Slice.Eq.{bytes_eq-Decides}
 use Rattle.frac_keys.specs.Keys.{bytes_less}
 use Rattle.frac_keys.specs.Rising.{ends_rise, rise_between, are_rising}
 use Rattle.links.specs.declared.rows.LinkRow.{LinkRow}
-use Rattle.links.specs.Rows.{is_for, namer_of, is_earlier, AreRowsRising, rows_at, AreRows, IsGapFor, IsRowAt, AreEndsOf}
+use Rattle.links.specs.Rows.{is_for, namer_of, is_earlier, AreRowsRising, rows_at, AreRows}
+use Rattle.links.specs.inner.Rows.{IsGapFor, IsRowAt, AreEndsOf}
 use Rattle.links.proofs.Members.{bytes_eq-refl}
 use Rattle.links.proofs.Sorting.{less-order, is_less, is_not_greater, not_greater-is, bytes_eq-cmp, turns-ordered, before_is, at_is, behind_is, less_is}
 

@@ -12,7 +12,8 @@ use Rattle.std.proofs.Math.Seq.{take-nil, drop-nil}
 use Rattle.elem.specs.ElementValue.{ElementValue}
 use Rattle.elem.specs.declared.kind.Kind.TheVariants.{Rectangle}
 use Rattle.links.specs.declared.table.Row.{Row}
-use Rattle.links.specs.Tables.{is_under, row_less}
+use Rattle.links.specs.Tables.{is_under}
+use Rattle.links.specs.inner.Tables.{row_less}
 
 -- ---- what lies between the places where two tests of a list turn
 module _ {X : Type 0} (below up_to among : X → Bool)

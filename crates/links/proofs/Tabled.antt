@@ -17,7 +17,8 @@ use Rattle.links.specs.declared.table.Row.{Row}
 use Rattle.links.specs.Arrows.{is_bound_to, is_true_as, is_true_entry, arrow_entries, text_entries, listing}
 use Rattle.links.specs.Entries.{arrow_entry, first_entries}
 use Rattle.links.specs.Names.{id_of, is_arrow, is_id, can_hold_text, names_container, target_of, end_names, has_end_at, is_target}
-use Rattle.links.specs.Tables.{is_under, row_element, elements_under, Adds, IsTable, with_listing_entry, with_entries}
+use Rattle.links.specs.Tables.{is_under, row_element, elements_under, Adds, with_listing_entry}
+use Rattle.links.specs.inner.Tables.{IsTable, with_entries}
 use Rattle.links.specs.Texts.{is_for_text, is_text_entry, listed_text, first_text, text_of, is_text_of, keeps_container}
 use Rattle.links.proofs.EntryLaws.{first_entries-push, with_entries-first, with_entries-push}
 use Rattle.links.proofs.Sorting.{bytes_eq-cmp}

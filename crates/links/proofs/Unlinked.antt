@@ -10,7 +10,7 @@ use Rattle.json_text.proofs.CallerLemmas.{none-is}
 use Rattle.links.specs.Arrows.{names_target, is_bound_to, is_true_entry, arrow_entries, text_entries, listing, with_settled_links, settled_arrows}
 use Rattle.links.specs.Entries.{arrow_entry, first_entries}
 use Rattle.links.specs.Names.{id_of, is_text, is_arrow, is_id, can_hold_text, target_of, end_names, has_end_at, names_container, is_target}
-use Rattle.links.specs.Settled.{is_linked}
+use Rattle.links.specs.inner.Settled.{is_linked}
 use Rattle.links.specs.Texts.{is_text_entry, keeps_container, text_of, with_settled_container, settled_texts}
 use Rattle.links.proofs.Members.{Contains-head, Contains-cons, map-same, list_any-from, find-None}
 use Rattle.links.proofs.Tabled.{held, not_held}

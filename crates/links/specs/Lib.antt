@@ -7,3 +7,4 @@ pub mod Settled
 pub mod Steps
 pub mod Tables
 pub mod Texts
+pub mod inner

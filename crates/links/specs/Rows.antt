@@ -1,5 +1,5 @@
 -- Rows of who names whom. This project's own.
-use Rattle.std.specs.Prelude.{◌≡◌, ℕ, ◌-◌, ◌<◌, ◌≤◌, min, List, [], ◌∷◌, ◌++◌, Bool, true, ◌&&◌, ◌||◌, Option, Some, None, AllPairs, length, map, slice_get, slice_index_or, bytes_eq}
+use Rattle.std.specs.Prelude.{◌≡◌, ℕ, ◌-◌, min, List, [], ◌∷◌, ◌++◌, Bool, true, ◌&&◌, ◌||◌, Option, Some, None, AllPairs, length, map, bytes_eq}
 use Rattle.std.specs.List.{list_any}
 use Rattle.frac_keys.specs.Keys.{bytes_less}
 use Rattle.json_text.specs.FirstOccurrences.{first_texts}
@@ -77,24 +77,3 @@ room_in named_room namers_room count = min (named_room - count) (namers_room - c
 pub record AreRows (named namers : List (List ℕ)) : Type 0 where
   pub full : length namers ≡ length named
   pub rise : AreRowsRising (rows_at named namers)
-
--- a row that isn't there would stand at this index: earlier rows before it, later ones from it on
-pub record IsGapFor (rows : List LinkRow) (row : LinkRow) (i : ℕ) : Type 0 where
-  pub in_range : i ≤ length rows
-  pub before : (k : ℕ) (d : LinkRow) → k < i → is_earlier (slice_index_or rows k d) row ≡ true
-  pub behind : (k : ℕ) (d : LinkRow) → i ≤ k → k < length rows
-      → is_earlier row (slice_index_or rows k d) ≡ true
-
--- the row at an index is this one
-abbrev pub IsRowAt : List LinkRow → LinkRow → ℕ → Type 0
-IsRowAt rows row i = slice_get rows i ≡ Some row
-
--- the ids from the one place on and before the other are those that are this one: lesser ones come
--- before, greater ones after them
-pub record AreEndsOf (ids : List (List ℕ)) (id : List ℕ) (start end' : ℕ) : Type 0 where
-  pub ordered : start ≤ end'
-  pub within : end' ≤ length ids
-  pub less : (k : ℕ) (d : List ℕ) → k < start → bytes_less (slice_index_or ids k d) id ≡ true
-  pub same : (k : ℕ) (d : List ℕ) → start ≤ k → k < end' → slice_index_or ids k d ≡ id
-  pub greater : (k : ℕ) (d : List ℕ) → end' ≤ k → k < length ids
-      → bytes_less id (slice_index_or ids k d) ≡ true

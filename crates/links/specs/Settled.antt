@@ -1,6 +1,6 @@
 -- What holds of a list whose links are settled, and what settling leaves as it is. This project's
 -- own.
-use Rattle.std.specs.Prelude.{◌≡◌, ◌≤◌, ◌==◌, List, [], Bool, true, false, not, ◌||◌, Some, None, is_some, Contains, IfSome, filter, length}
+use Rattle.std.specs.Prelude.{◌≡◌, ◌≤◌, List, [], true, false, Some, None, Contains, IfSome, filter, length}
 use Rattle.elem.specs.declared.parts.BoundRef.{BoundRef}
 use Rattle.elem.specs.declared.parts.Binding.{Binding}
 use Rattle.elem.specs.ElementValue.{ElementValue}
@@ -39,11 +39,6 @@ NameTargets list =
 -- ends
 abbrev pub unlinked : ElementValue → ElementValue
 unlinked e = record e { bound = []; container = None; start_binding = None; end_binding = None }
-
--- whether an element names another one or lists one
-abbrev pub is_linked : ElementValue → Bool
-is_linked e = not (length e.bound == 0)
-    || (is_some e.container || (is_some e.start_binding || is_some e.end_binding))
 
 -- the elements with their texts settled and then their arrows
 abbrev pub settled_links : List ElementValue → List ElementValue

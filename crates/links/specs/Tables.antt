@@ -1,29 +1,23 @@
 -- How the code keeps who names whom: rows of an id and an element, in the order of the ids and, for
 -- one id, of the list. This project's own.
 use Rattle.std.specs.Prelude.{◌≡◌, ℕ, List, [], ◌∷◌, ◌++◌, Bool, None, filter, map, bytes_eq, if◌then◌else◌}
-use Rattle.std.specs.List.Sorted.{IsSortedBy}
-use Rattle.frac_keys.specs.Keys.{bytes_less}
 use Rattle.elem.specs.ElementValue.{ElementValue}
 use Rattle.std.specs.BTreeSet.{BTreeSet}
 use Rattle.std.specs.Cmp.Lexicographic.{slice_cmp}
 use Rattle.std.specs.List.{list_any}
 use Rattle.std.specs.Ordering.{is_eq, nat_cmp}
 use Rattle.elem.specs.declared.parts.BoundRef.{BoundRef}
-use Rattle.elem.specs.Order.{has_id}
 use Rattle.links.specs.declared.arrows.Links.{Links}
 use Rattle.links.specs.declared.table.Row.{Row}
 use Rattle.links.specs.Arrows.{names_target, listing}
-use Rattle.links.specs.Entries.{lists, arrow_entry, text_entry}
-use Rattle.links.specs.Names.{target_of, names_container}
+use Rattle.links.specs.Entries.{lists}
+use Rattle.links.specs.Names.{target_of}
 
 abbrev pub is_under : List ℕ → Row → Bool
 is_under key row = bytes_eq key row.key
 
 abbrev pub row_element : Row → ElementValue
 row_element row = row.element.now
-
-abbrev pub row_less : Row → Row → Bool
-row_less row other = bytes_less row.key other.key
 
 -- the elements under an id
 abbrev pub elements_under : List ℕ → List Row → List ElementValue
@@ -35,17 +29,6 @@ pub record Adds (names : List ℕ → ElementValue → Bool) (e : ElementValue) 
   pub each : (key : List ℕ) → elements_under key new ≡ elements_under key old
       ++ (if names key e then e ∷ [] else [])
 
--- These rows have under each id the elements of the list that name it, in the list's order.
-pub record IsTable (names : List ℕ → ElementValue → Bool) (list : List ElementValue)
-    (rows : List Row) : Type 0 where
-  pub ordered : IsSortedBy row_less rows
-  pub found : (key : List ℕ) → elements_under key rows ≡ filter (names key) list
-
--- the tables of a list: its elements by their ids, and its texts by their containers
-pub record AreTables (list : List ElementValue) (by_id by_container : List Row) : Type 0 where
-  pub ids : IsTable has_id list by_id
-  pub texts : IsTable names_container list by_container
-
 -- whether an id is among those that were seen
 abbrev pub has_seen : BTreeSet (List ℕ) → List ℕ → Bool
 has_seen seen id = list_any (λ key. is_eq (slice_cmp nat_cmp id key)) seen.keys
@@ -53,15 +36,6 @@ has_seen seen id = list_any (λ key. is_eq (slice_cmp nat_cmp id key)) seen.keys
 -- entries and one more, which is added where it is missing
 abbrev pub with_listing_entry : List BoundRef → BoundRef → List BoundRef
 with_listing_entry entries entry = if lists entries entry then entries else entries ++ entry ∷ []
-
-abbrev pub with_entries : List BoundRef → List BoundRef → List BoundRef
-with_entries entries [] = entries
-with_entries entries (entry ∷ others) = with_entries (with_listing_entry entries entry) others
-
--- The ids that were seen are those of the entries.
-pub record AreSeen (entries : List BoundRef) (arrows texts : BTreeSet (List ℕ)) : Type 0 where
-  pub arrow_ids : (id : List ℕ) → has_seen arrows id ≡ lists entries (arrow_entry id)
-  pub text_ids : (id : List ℕ) → has_seen texts id ≡ lists entries (text_entry id)
 
 -- what settling an element's links changes: which ends it keeps, and its listing
 abbrev pub links_of : List ElementValue → ElementValue → Links

@@ -5,7 +5,8 @@ ghost use Rattle.std.specs.Option.{option_copied};
 ghost use Rattle.links.specs.Arrows as words;
 ghost use Rattle.links.specs.Entries.{first_entries};
 ghost use Rattle.links.specs.Names.{has_end_at};
-ghost use Rattle.links.specs.Tables.{links_of, with_entries, AreSeen, IsTable};
+ghost use Rattle.links.specs.Tables.{links_of};
+ghost use Rattle.links.specs.inner.Tables.{with_entries, AreSeen, IsTable};
 ghost use Rattle.links.specs.Texts.{text_of};
 ghost use Rattle.elem.specs.declared.kind.Role.TheVariants as roles;
 

@@ -1,7 +1,8 @@
 //! A listing under way: entries, each once.
 
 ghost use Rattle.std.specs.Prelude.{◌≡◌, ℕ, List as Items, [], ◌∷◌, ◌++◌, not, ◌||◌, bytes_eq, IfOk, OnOk};
-ghost use Rattle.links.specs.Tables.{has_seen, with_listing_entry, AreSeen};
+ghost use Rattle.links.specs.Tables.{has_seen, with_listing_entry};
+ghost use Rattle.links.specs.inner.Tables.{AreSeen};
 
 use elem::{BoundRef, Role};
 use json_text::Text;

@@ -4,7 +4,8 @@ ghost use Rattle.std.specs.Prelude.{◌≡◌, filter, map, OnOk, IfOk};
 ghost use Rattle.std.specs.Option.{option_copied};
 ghost use Rattle.elem.specs.Order.{has_id};
 ghost use Rattle.links.specs.Names as words;
-ghost use Rattle.links.specs.Tables.{row_element, Adds, IsTable};
+ghost use Rattle.links.specs.Tables.{row_element, Adds};
+ghost use Rattle.links.specs.inner.Tables.{IsTable};
 
 use crate::parts::{container_of, id_of, is_arrow, is_text};
 use crate::table::{Row, rows_under, sorted};
@@ -25,7 +26,7 @@ pub(crate) struct Names<'a> {
 impl<'a> Model for Names<'a> {
     ghost use Rattle.std.specs.Prelude.{List as Items};
     ghost use Rattle.elem.specs.ElementValue.{ElementValue};
-    ghost use Rattle.links.specs.Tables.{AreTables};
+    ghost use Rattle.links.specs.inner.Tables.{AreTables};
 
     ghost Value = { Items ElementValue };
 

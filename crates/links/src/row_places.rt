@@ -3,7 +3,8 @@
 ghost use Rattle.std.specs.Prelude.{◌≡◌, ◌<◌, ◌≤◌, List as Items, not, ◌&&◌, insert, filter, length, IfOk, IfErr, vec_len, vec_capacity};
 ghost use Rattle.std.specs.List.Sorted.{IsSortedBy};
 ghost use Rattle.frac_keys.specs.Keys.{bytes_less};
-ghost use Rattle.links.specs.Rows.{is_namer, rows_at, AreRows, AreEndsOf, IsRowAt, IsGapFor};
+ghost use Rattle.links.specs.Rows.{is_namer, rows_at, AreRows};
+ghost use Rattle.links.specs.inner.Rows.{AreEndsOf, IsRowAt, IsGapFor};
 
 use crate::rows::LinkRow;
 use json_text::Text;

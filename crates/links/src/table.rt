@@ -3,7 +3,8 @@
 ghost use Rattle.std.specs.Prelude.{◌≡◌, ℕ, ◌≤◌, List, filter, length, slice_range, IfOk};
 ghost use Rattle.std.specs.List.Sorted.{IsSortedBy};
 ghost use Rattle.std.specs.Ordering.{is_lt};
-ghost use Rattle.links.specs.Tables.{is_under, row_less};
+ghost use Rattle.links.specs.Tables.{is_under};
+ghost use Rattle.links.specs.inner.Tables.{row_less};
 
 use board_base::Fronted;
 use elem::Element;

@@ -5,7 +5,8 @@ ghost use Rattle.std.specs.List.{list_any};
 ghost use Rattle.std.specs.List.Sorted.{IsSortedBy};
 ghost use Rattle.std.specs.Option.{option_copied};
 ghost use Rattle.links.specs.Names as names;
-ghost use Rattle.links.specs.Tables.{row_less, elements_under, IsTable};
+ghost use Rattle.links.specs.Tables.{elements_under};
+ghost use Rattle.links.specs.inner.Tables.{row_less, IsTable};
 ghost use Rattle.links.specs.Texts as words;
 
 use crate::names::{Names, add_under};

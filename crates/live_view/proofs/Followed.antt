@@ -7,7 +7,8 @@ use Rattle.elem.specs.Order.{has_id}
 use Rattle.elem_store.specs.Updates.{element_of, ids_of, is_taken, HasTaken}
 use Rattle.elem_store.proofs.CallerLemmas.{same_id, of_itself, find-Some, none_above}
 use Rattle.undoing.specs.Carrying.{with_put, taken}
-use Rattle.live_view.specs.Changes.{AreSameButAt, HasRedrawn}
+use Rattle.live_view.specs.Changes.{AreSameButAt}
+use Rattle.live_view.specs.inner.Changes.{HasRedrawn}
 use Rattle.view.specs.Shown.{is_live, live_elements}
 use Rattle.view.proofs.CallerLemmas.{live_elements-rise}
 use Rattle.live_view.proofs.Redrawn.{all-redrawn}

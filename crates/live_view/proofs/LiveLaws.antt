@@ -13,7 +13,7 @@ use Rattle.links.specs.Steps.{names_id}
 use Rattle.view.specs.Shown.{is_live, IsView}
 use Rattle.view.proofs.CallerLemmas.{HaveDistinctIds-rising}
 use Rattle.live_view.specs.declared.places.Put.{Put}
-use Rattle.live_view.specs.Changes.{redrawn_as}
+use Rattle.live_view.specs.inner.Changes.{redrawn_as}
 use Rattle.live_view.specs.inner.Putting.{puts_of, IsInPlace, all_put}
 use Rattle.view.specs.Kept.{AreOthersAsStored, HaveRowsOf}
 use Rattle.live_view.specs.inner.Unsettled.{put_ids, HasNoted, StillHas}

@@ -14,6 +14,7 @@ use Rattle.links.specs.Rows.{is_for, namer_of}
 use Rattle.links.specs.Names.{is_id, end_names}
 use Rattle.links.specs.Steps.{links_to, names_id}
 use Rattle.view.proofs.CallerLemmas.{namer-among}
+use Rattle.elem_store.proofs.CallerLemmas.{member}
 use Rattle.live_view.specs.inner.Reached.{HaveFrames, HaveLinked, HaveNamers, HasNamers, IsStartedBy, AreStartedBy, StaysKind}
 use Rattle.view.specs.Kept.{HaveRowsOf}
 

@@ -22,7 +22,7 @@ use Rattle.view.specs.Kept.{AreOthersAsStored}
 use Rattle.view.specs.Shown.{shown, IsView}
 use Rattle.view.proofs.CallerLemmas.{HaveDistinctIds-rising, shown-is}
 use Rattle.live_view.specs.declared.places.Put.{Put}
-use Rattle.live_view.specs.Changes.{redrawn_as}
+use Rattle.live_view.specs.inner.Changes.{redrawn_as}
 use Rattle.live_view.specs.inner.Coming.{part_with, rekeyed, HasGone, IsComing, IsGoing}
 use Rattle.live_view.specs.inner.Runs.{stored_keys, AreKeysWith, AreKeysWithout}
 use Rattle.live_view.specs.inner.Unsettled.{put_ids, run_ids, touched_ids, HasNoted, StillHas}

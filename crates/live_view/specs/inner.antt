@@ -1,4 +1,5 @@
 -- What only this crate's own bodies and proofs need.
+pub mod Changes
 pub mod Coming
 pub mod Following
 pub mod Putting

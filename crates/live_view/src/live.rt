@@ -8,7 +8,7 @@ ghost use Rattle.view.specs.Kept.{AreOthersAsStored, HaveRowsOf};
 ghost use Rattle.view.specs.Settled.{AreSettled};
 ghost use Rattle.index_repair.specs.Keyed.{HaveRisingKeys};
 ghost use Rattle.view.specs.Shown.{live_elements, shown, bare, IsSceneOrder};
-ghost use Rattle.live_view.specs.Changes.{HasRedrawn};
+ghost use Rattle.live_view.specs.inner.Changes.{HasRedrawn};
 ghost use Rattle.live_view.specs.inner.Following.{HaveFollowed};
 
 use crate::kept::Kept;

@@ -2,7 +2,7 @@
 //! further members: nothing else that is shown changes.
 
 ghost use Rattle.std.specs.Prelude.{◌≡◌, ◌<◌, Some, Ok, true, false, map, OnErr, length, slice_get, slice_set, IfOk, IfSome, IsTrue, IsSomeAnd, bytes_eq, vec_len};
-ghost use Rattle.live_view.specs.Changes.{outline, redrawn_as, HasRedrawn, IsRedrawn};
+ghost use Rattle.live_view.specs.inner.Changes.{outline, redrawn_as, HasRedrawn, IsRedrawn};
 
 use crate::kept::Kept;
 use crate::places::{place_of, place_shown, replace};

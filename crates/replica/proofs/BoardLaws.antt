@@ -20,7 +20,8 @@ use Rattle.history.proofs.CallerLemmas.{noted-stands, left-stands, left-ids, not
 use Rattle.undoing.specs.Carrying.{taken_all, carried_all}
 use Rattle.undoing.specs.Differing.{is_changed, pending}
 use Rattle.undoing.proofs.CallerLemmas.{pending-entry, taken_all-elements, taken_all-rising, carried_all-elements, carried_all-rising, takings-elements}
-use Rattle.replica.specs.Boards.{Told, ToldStandsFor, IsSound, IsTold, HasTakenAll, HasCarriedAll, HasCaptured, HasStoredGiven}
+use Rattle.replica.specs.Boards.{Told, ToldStandsFor, IsSound, IsTold}
+use Rattle.replica.specs.inner.Boards.{HasTakenAll, HasCarriedAll, HasCaptured, HasStoredGiven}
 use Rattle.replica.specs.State as state
 use Rattle.replica.specs.State.{State}
 use Rattle.replica.proofs.StoredLaws.{ids-kept, stack-kept, carried-known, element-some}

@@ -6,7 +6,8 @@ use Rattle.history.specs.declared.planned.Direction.{Direction}
 use Rattle.history.specs.declared.step.Step.{Step}
 use Rattle.history.specs.declared.step.Step.TheVariants.{Done, Nothing}
 use Rattle.history.specs.Stacks.{Stacks, HasTakenBack, AreUnseen, noted, other, put_step, side}
-use Rattle.replica.specs.Boards.{Told, StacksComeBy, GivesTaken, HasPutStep, HasTurned, IsPlannedStep}
+use Rattle.replica.specs.Boards.{Told, StacksComeBy, IsPlannedStep}
+use Rattle.replica.specs.inner.Boards.{GivesTaken, HasPutStep, HasTurned}
 use Rattle.replica.specs.declared.planned.PlannedStep.{PlannedStep}
 use Rattle.replica.proofs.TurnLaws.{given-taken}
 

@@ -7,7 +7,7 @@ use Rattle.elem_store.specs.Updates.{ids_of, is_taken}
 use Rattle.effects.specs.Changed.{outcome}
 use Rattle.board_commands.specs.declared.command.Command.{Command}
 use Rattle.effects.proofs.CallerLemmas.{given-rise, given-taken}
-use Rattle.replica.specs.Boards.{BecomeStored}
+use Rattle.replica.specs.inner.Boards.{BecomeStored}
 
 pub command-given : (stored shown : List ElementValue) (command : Command) (time nonce : ℕ) (given : List ElementValue)
     → are_rising (ids_of stored) ≡ true → outcome stored shown command time nonce ≡ Ok given → BecomeStored stored given

@@ -17,7 +17,8 @@ use Rattle.history.specs.Stacks.{OnFull, put_step}
 use Rattle.history.specs.declared.planned.Direction.{Direction}
 use Rattle.undoing.specs.Differing.{pending}
 use Rattle.undoing.specs.Steps.{Turn}
-use Rattle.replica.specs.Boards.{Told, ToldStandsFor, IsTold, HasCarriedAll, HasPutStep, HasStopped, HasStoredGiven, HasTurned, IsPlanOf, IsPlannedStep}
+use Rattle.replica.specs.Boards.{Told, ToldStandsFor, IsTold, IsPlanOf, IsPlannedStep}
+use Rattle.replica.specs.inner.Boards.{HasCarriedAll, HasPutStep, HasStopped, HasStoredGiven, HasTurned}
 use Rattle.replica.specs.declared.planned.PlannedStep.{PlannedStep}
 use Rattle.replica.specs.Standing.{Kept, ReplicaStandsFor}
 use Rattle.replica.specs.State as state

@@ -18,7 +18,8 @@ use Rattle.history.proofs.CallerLemmas.{ids-stored, step-nothing, step-full, ste
 use Rattle.undoing.specs.Carrying.{taken_all}
 use Rattle.undoing.specs.Differing.{pending}
 use Rattle.undoing.specs.Steps.{Turn, step}
-use Rattle.replica.specs.Boards.{Told, ToldStandsFor, IsSound, BecomeStored, HasTurned, HasStopped, StacksComeBy}
+use Rattle.replica.specs.Boards.{Told, ToldStandsFor, IsSound, StacksComeBy}
+use Rattle.replica.specs.inner.Boards.{BecomeStored, HasTurned, HasStopped}
 use Rattle.replica.specs.State as state
 use Rattle.replica.specs.State.{State}
 use Rattle.replica.proofs.BoardLaws.{told-is, captured_told, captured-stands, captured-sound, stored-rise, stored-elements}

@@ -3,3 +3,4 @@ pub mod Boards
 pub mod Sound
 pub mod Standing
 pub mod State
+pub mod inner

@@ -12,7 +12,8 @@ ghost use Rattle.history.specs.Stacks as stacks;
 ghost use Rattle.history.specs.Stacks.{FitsIn, OnFull, noted};
 ghost use Rattle.undoing.specs.Carrying.{taken_all};
 ghost use Rattle.undoing.specs.Differing.{pending};
-ghost use Rattle.replica.specs.Boards.{told, BecomeStored, GivesElements, GivesTaken, HasCaptured, HasCarriedAll, HasPutStep, HasStopped, HasStoredGiven, HasTakenAll, IsBoard, IsPlanOf, IsPlannedStep, IsUntouched, stored_by};
+ghost use Rattle.replica.specs.Boards.{told, IsBoard, IsPlanOf, IsPlannedStep, IsUntouched};
+ghost use Rattle.replica.specs.inner.Boards.{BecomeStored, GivesElements, GivesTaken, HasCaptured, HasCarriedAll, HasPutStep, HasStopped, HasStoredGiven, HasTakenAll, stored_by};
 
 use crate::planned::PlannedStep;
 use board_base::{List, Stop};

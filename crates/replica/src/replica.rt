@@ -80,8 +80,8 @@ impl Replica {
     }
 
     /// Makes a change: the elements that the command changes are stored, and given in the order of
-    /// their ids; or it is refused, and nothing is changed. Each that changes is stamped with the
-    /// time and the nonce.
+    /// their ids; or it is refused, and nothing is changed. Each that changes has this
+    /// stamp.
     pub fn change(
         &mut self,
         command: &Command,
@@ -108,7 +108,7 @@ impl Replica {
     }
 
     /// The elements that a command changes, as they become, in the order of their ids; or the
-    /// refusal. Each that changes is stamped with the time and the nonce.
+    /// refusal. Each that changes has this stamp.
     pub fn given(&self, command: &Command, stamp: Stamp) -> Result<List<Element>, Stop<Refusal>>
         requires limits { IsWithinLimits command.now }
         ensures given { IfOk result

@@ -14,7 +14,7 @@ use Rattle.json_text.specs.Parts.{names_of}
 use Rattle.scene_json.specs.Named.{value_at}
 use Rattle.scene_json.specs.TheOne.{IsTheOne}
 use Rattle.json_text.proofs.CallerLemmas.{bytes_eq-true, bytes_eq-same, bytes_eq-apart}
-use Rattle.restore_table.specs.Merged.{AreUpdated, AreOldIds}
+use Rattle.restore_table.specs.inner.Merged.{AreUpdated, AreOldIds}
 use Rattle.restore_table.specs.Restored.{HasOldListing, listing_name, old_name, listing_text}
 
 -- ---- without a name

@@ -15,7 +15,8 @@ use Rattle.json_text.specs.declared.text.Member.{Member}
 use Rattle.scene_json.specs.Named.{value_at, HaveRisingNames}
 use Rattle.json_text.proofs.CallerLemmas.{bytes_eq-true}
 use Rattle.scene_json.proofs.CallerLemmas.{IsBelow, IsBelow-less, bytes_eq-tied, less_turned, value_at-below, rising_parts, rising_from, rising_none}
-use Rattle.restore_table.specs.Merged.{chosen, spliced, merged, RiseAfter, IsWholeAfter, AreCompleted}
+use Rattle.restore_table.specs.Merged.{chosen, spliced, merged}
+use Rattle.restore_table.specs.inner.Merged.{RiseAfter, IsWholeAfter, AreCompleted}
 use Rattle.restore_table.specs.Table.{defaults}
 use Rattle.restore_table.specs.Restored.{filled}
 

@@ -10,7 +10,8 @@ use Rattle.scene_json.specs.Named.{value_at, AreSameMembers, HaveRisingNames}
 use Rattle.scene_json.specs.TheOne.{IsTheOne}
 use Rattle.json_text.proofs.CallerLemmas.{bytes_eq-true, bytes_eq-same, bytes_eq-apart}
 use Rattle.scene_json.proofs.CallerLemmas.{same_moved, rising_same}
-use Rattle.restore_table.specs.Merged.{merged, AreUpdated, listing_over}
+use Rattle.restore_table.specs.Merged.{merged}
+use Rattle.restore_table.specs.inner.Merged.{AreUpdated, listing_over}
 use Rattle.restore_table.specs.Restored.{filled, filled_at, AreRestored, HasOldListing, LackNothing, listing_at, listing_text, listing_name, old_name}
 use Rattle.restore_table.specs.Table.{defaults}
 use Rattle.restore_table.proofs.Merging.{merged-at, merged-rise}

@@ -14,7 +14,7 @@ use Rattle.scene_json.specs.Named.{value_at, HaveRisingNames}
 use Rattle.json_text.proofs.CallerLemmas.{quote-compact, literal-compact, array-compact, ascii-utf8}
 use Rattle.scene_json.proofs.CallerLemmas.{IsBelow-less, rising_from, rising_none, rising_parts}
 use Rattle.restore_table.specs.declared.table.Row.{Row}
-use Rattle.restore_table.specs.Merged.{row_pair}
+use Rattle.restore_table.specs.inner.Merged.{row_pair}
 use Rattle.restore_table.specs.Table.{defaults}
 use Rattle.restore_table.specs.Restored.{old_name}
 

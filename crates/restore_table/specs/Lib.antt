@@ -1,3 +1,4 @@
 pub mod Merged
 pub mod Restored
 pub mod Table
+pub mod inner

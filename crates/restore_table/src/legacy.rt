@@ -7,7 +7,7 @@ ghost use Rattle.json_text.specs.Compact.{has_other_name};
 ghost use Rattle.json_text.specs.Members.{pairs};
 ghost use Rattle.json_text.specs.Value.{IsCompact};
 ghost use Rattle.scene_json.specs.TheOne.{IsTheOne};
-ghost use Rattle.restore_table.specs.Merged.{AreUpdated, AreOldIds};
+ghost use Rattle.restore_table.specs.inner.Merged.{AreUpdated, AreOldIds};
 ghost use Rattle.restore_table.specs.Restored.{arrow_text, listing_name, listing_text};
 
 use board_base::List;

@@ -10,7 +10,8 @@ ghost use Rattle.std.specs.declared.cmp.Ordering.TheVariants.{Less};
 ghost use Rattle.json_text.specs.Compact.{Member as Pair};
 ghost use Rattle.json_text.specs.Members.{pairs, pair_of};
 ghost use Rattle.json_text.specs.Value.{IsCompact};
-ghost use Rattle.restore_table.specs.Merged.{row_pair, chosen, merged, name_of, RiseAfter, IsWholeAfter, AreCompleted};
+ghost use Rattle.restore_table.specs.Merged.{chosen, merged};
+ghost use Rattle.restore_table.specs.inner.Merged.{row_pair, name_of, RiseAfter, IsWholeAfter, AreCompleted};
 ghost use Rattle.restore_table.specs.Restored.{AreRestored};
 ghost use Rattle.restore_table.specs.Table.{defaults};
 

@@ -5,7 +5,7 @@ ghost use Rattle.std.specs.List.{AllByRecursion};
 ghost use Rattle.json_text.specs.Value.{IsCompact};
 ghost use Rattle.scene_json.specs.Named.{value_at};
 ghost use Rattle.restore_table.specs.Table.{defaults};
-ghost use Rattle.restore_table.specs.Merged.{row_pair};
+ghost use Rattle.restore_table.specs.inner.Merged.{row_pair};
 
 use json_text::{Raw, Text};
 use std::alloc::{AllocError, Global};

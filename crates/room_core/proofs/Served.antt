@@ -8,7 +8,8 @@ use Rattle.board_ends.specs.declared.links.LinkEvent.TheVariants.{Opened, Text, 
 use Rattle.room_core.specs.Rooms.{RoomState, IsRoomStep, without}
 use Rattle.board_ends.specs.Ends.{LinksEnd}
 use Rattle.room_core.specs.Told.{HaveTried, Tells, texts_tried}
-use Rattle.room_core.specs.Serving.{Serving, AreRounds, EndsBy, IsServed, IsServedEvent, IsServedRound, IsCutEvent, end_of, serving_of, serving_at, step_count, idles_after, is_none_joined}
+use Rattle.room_core.specs.Serving.{Serving, AreRounds, EndsBy, IsServed, end_of, serving_of, serving_at, step_count, idles_after, is_none_joined}
+use Rattle.room_core.specs.inner.Serving.{IsServedEvent, IsServedRound, IsCutEvent}
 use Rattle.room_core.specs.declared.limits.RoomLimits.{RoomLimits}
 use Rattle.room_core.specs.declared.limits.ServeEnd.{ServeEnd}
 use Rattle.room_core.specs.declared.limits.ServeEnd.TheVariants.{AllClosed, Idle as IdleEnd, LinkFault, LinksFull, EventsFull, Memory}

@@ -9,7 +9,8 @@ use Rattle.room_msg.specs.Texts.{message_text}
 use Rattle.room_msg.specs.declared.fault.MsgFault.{MsgFault}
 use Rattle.room_msg.specs.declared.message.Message.{Message}
 use Rattle.room_msg.specs.declared.message.Message.TheVariants.{Init, Update, Presence}
-use Rattle.room_core.specs.Planned.{IsPlanned, IsChanged, change_by, joined_by, record_in, record_of_message, taken_by, texts_told}
+use Rattle.room_core.specs.Planned.{IsPlanned, IsChanged, joined_by, record_in, record_of_message, taken_by, texts_told}
+use Rattle.room_core.specs.inner.Planned.{change_by}
 use Rattle.room_core.specs.Rooms.{RoomState, Joined, Heard, Left, Nothing, IsRoomStep, HaveTaken, invalid_text, is_among, message_updates, text_for_each, without}
 use Rattle.room_core.specs.declared.plan.Change.{Change}
 use Rattle.room_core.specs.declared.plan.Change.TheVariants.{Join, Leave, Unchanged}

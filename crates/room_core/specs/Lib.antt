@@ -5,3 +5,4 @@ pub mod Rooms
 pub mod Scripts
 pub mod Serving
 pub mod Told
+pub mod inner

@@ -29,12 +29,6 @@ joined_by joined (Take elements) = joined
 joined_by joined (Leave link) = without joined (link ∷ [])
 joined_by joined Unchanged = joined
 
--- what a message changes: its updates are taken
-abbrev pub change_by : Message → Change
-change_by (Init elements) = Take elements
-change_by (Update elements) = Take elements
-change_by (Presence value) = Unchanged
-
 -- Room for so many new ids and new links is enough for a change.
 abbrev pub Suffices : Change → ℕ → ℕ → Type 0
 Suffices (Join link) ids links = 0 < links

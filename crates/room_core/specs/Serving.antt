@@ -39,8 +39,7 @@ pub record IsRound (room : RoomState) (round : Round) : Type 0 where
   pub stepped : IsRoomAfter room round.happening round.stepped
   pub tried : texts_tried round.tries ≡ texts_of room round.happening
   pub after : round.after ≡ record round.stepped {
-    joined =
-        without round.stepped.joined (links_gone round.tries);
+    joined = without round.stepped.joined (links_gone round.tries);
   }
 
 -- how many events are counted for this one
@@ -144,28 +143,3 @@ steps_of (round ∷ rounds) =
 abbrev pub serving_of : RoomState → Tally → Serving
 serving_of room tally =
     record { room = room; opened = tally.opened; stepped = tally.stepped; idles = tally.idles }
-
--- One event was served: a round, and the texts that were tried for it are told.
-pub record IsServedEvent (room : RoomState) (event : LinkEvent) (new : RoomState)
-    (before after : LinksEnd) : Type 0 where
-  pub round : Round
-  pub of : round.event ≡ event
-  pub is_round : IsRound room round
-  pub room_after : new ≡ round.after
-  pub told : Tells before after [] round.tries
-
--- An event whose step ended for want of memory, and the texts that were tried for it.
-pub record IsCutEvent (room : RoomState) (event : LinkEvent) (new : RoomState)
-    (before after : LinksEnd) : Type 0 where
-  pub tries : List Try
-  pub cut : IsCutShort room (Some event) new tries
-  pub told : Tells before after [] tries
-
--- One event was given and served whole.
-pub record IsServedRound (limits : RoomLimits) (now next : Serving)
-    (before after : LinksEnd) : Type 0 where
-  pub round : Round
-  pub within : now.opened + opening_of round.event ≤ limits.links
-  pub is_round : IsRound now.room round
-  pub follows : next ≡ serving_after now round
-  pub told : Tells before after (round.event ∷ []) round.tries

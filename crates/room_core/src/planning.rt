@@ -5,7 +5,8 @@ ghost use Rattle.elem.specs.ElementValue.{ElementValue};
 ghost use Rattle.board_ends.specs.declared.links.LinkEvent.{LinkEvent};
 ghost use Rattle.room_msg.specs.Texts as texts;
 ghost use Rattle.room_core.specs.Rooms.{is_among, text_for_each, without};
-ghost use Rattle.room_core.specs.Planned.{IsPlanned, change_by, record_in, record_of_message, recorded, texts_told};
+ghost use Rattle.room_core.specs.Planned.{IsPlanned, record_in, record_of_message, recorded, texts_told};
+ghost use Rattle.room_core.specs.inner.Planned.{change_by};
 
 use crate::joined::{has_link, other_links};
 use crate::plan::{Change, Plan, Told};

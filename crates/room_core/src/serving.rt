@@ -2,7 +2,8 @@
 
 ghost use Rattle.std.specs.Prelude.{◌≡◌, ◌≤◌, IsSome, IfErr, OnOk, OnErr, Err, None, []};
 ghost use Rattle.board_ends.specs.Counts.{Rose};
-ghost use Rattle.room_core.specs.Serving.{at_start, IsServed, IsServedRound, IsServedEvent, IsCutEvent, end_of, serving_of};
+ghost use Rattle.room_core.specs.Serving.{at_start, IsServed, end_of, serving_of};
+ghost use Rattle.room_core.specs.inner.Serving.{IsServedRound, IsServedEvent, IsCutEvent};
 
 use crate::limits::{RoomLimits, ServeEnd};
 use crate::room::Room;

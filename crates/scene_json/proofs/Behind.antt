@@ -7,7 +7,7 @@ use Rattle.std.proofs.lemmas.List.Sums.{prefix_len_stops}
 use Rattle.std.proofs.lemmas.Bool.Decides.{nat_tests}
 use Rattle.json_text.specs.Characters.{is_hex, is_plain}
 use Rattle.json_text.specs.Tree.{Piece, bare, letter, unit, IsPiece, piece_spelling}
-use Rattle.scene_json.specs.Passes.{behind_string}
+use Rattle.scene_json.specs.inner.Passes.{behind_string}
 use Rattle.scene_json.proofs.ItemsLeft.{front}
 use Rattle.json_text.proofs.CallerLemmas.{list_all-each, plain-bare, hex-plain}
 

@@ -5,7 +5,7 @@ use Rattle.json_text.specs.Compact.{Member, array_text, object_text}
 use Rattle.json_text.specs.Parts.{AreMembers}
 use Rattle.json_text.specs.Value.{IsCompact}
 use Rattle.json_text.proofs.CallerLemmas.{Value-deeper, Value-Form, StartsWith, form-listed, form-membered, array-starts, object-starts, begins_value, Head, tree-Head, first-same}
-use Rattle.scene_json.specs.Passes.{Compacted}
+use Rattle.scene_json.specs.inner.Passes.{Compacted}
 use Rattle.scene_json.proofs.ItemsLeft.{front, front-is, ends-inside}
 
 module _ (bytes : List ℕ) (at : ℕ) {item rest : List ℕ} (h : Compacted (drop at bytes) item rest) where

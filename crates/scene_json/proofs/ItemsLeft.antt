@@ -6,7 +6,8 @@ use Rattle.json_text.specs.Tree.{Container, array, closing}
 use Rattle.json_text.specs.Compact.{array_text}
 use Rattle.json_text.specs.Value.{IsCompact}
 use Rattle.json_text.proofs.CallerLemmas.{drop-after, inside-after, begins_value, Head, tree-Head, head-apart, first-same}
-use Rattle.scene_json.specs.Passes.{Compacted, IsEnd, EndsAt, left_text, behind_item, GoesOn}
+use Rattle.scene_json.specs.Passes.{IsEnd, left_text, behind_item}
+use Rattle.scene_json.specs.inner.Passes.{Compacted, EndsAt, GoesOn}
 use Rattle.scene_json.specs.Walks.{Leaves}
 
 -- the byte at an offset, and what follows it

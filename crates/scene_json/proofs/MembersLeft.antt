@@ -8,7 +8,8 @@ use Rattle.json_text.specs.Value.{IsCompact}
 use Rattle.json_text.specs.Walk.{Quoted}
 use Rattle.json_text.specs.Parts.{AreMembers}
 use Rattle.json_text.proofs.CallerLemmas.{array-starts, quote-Quoted, drop-after, inside-after}
-use Rattle.scene_json.specs.Passes.{Compacted, IsEnd, EndsAt, left_text, behind_item, StandHere, IsPassed, IsStopped, HaveEnded}
+use Rattle.scene_json.specs.Passes.{IsEnd, left_text, behind_item}
+use Rattle.scene_json.specs.inner.Passes.{Compacted, EndsAt, StandHere, IsPassed, IsStopped, HaveEnded}
 use Rattle.scene_json.proofs.ItemsLeft.{front-is, behind-split, behind-ends, ends-inside}
 
 -- what follows the first member that is left: the closing bracket, or a comma and the others

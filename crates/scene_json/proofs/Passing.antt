@@ -4,7 +4,7 @@ use Rattle.std.specs.List.{list_all}
 use Rattle.std.proofs.lemmas.Bool.Decides.{nat_tests}
 use Rattle.json_text.specs.Characters.{is_space, is_inert}
 use Rattle.json_text.specs.Tree.{Container, array, object, opening, closing, Label, unnamed, named, IsLabel, label_spelling, Tree, scalar, text, empty, filled, Values, last, next, spelling, values_spelling, IsGood, AreGood, depth, values_depth}
-use Rattle.scene_json.specs.Passes.{behind_string}
+use Rattle.scene_json.specs.inner.Passes.{behind_string}
 use Rattle.json_text.proofs.CallerLemmas.{is_part_of_literal, list_all-each, literal-plain}
 use Rattle.scene_json.proofs.Behind.{pieces-behind}
 

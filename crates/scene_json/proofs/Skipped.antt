@@ -5,7 +5,8 @@ use Rattle.std.specs.List.{prefix_len}
 use Rattle.json_text.specs.Tree.{depth}
 use Rattle.json_text.specs.Characters.{ends_value, is_inert, is_quiet}
 use Rattle.json_text.specs.Walk.{Place, outside, inside}
-use Rattle.scene_json.specs.Passes.{behind_string, Compacted, IsEnd}
+use Rattle.scene_json.specs.Passes.{IsEnd}
+use Rattle.scene_json.specs.inner.Passes.{behind_string, Compacted}
 use Rattle.scene_json.proofs.Behind.{length-behind_string}
 use Rattle.scene_json.proofs.Depths.{level_after}
 use Rattle.scene_json.proofs.Passing.{IsPass, tree-steps}

@@ -4,3 +4,4 @@ pub mod Named
 pub mod Passes
 pub mod TheOne
 pub mod Walks
+pub mod inner

@@ -3,7 +3,7 @@
 ghost use Rattle.std.specs.Prelude.{◌≡◌, ◌↔◌, ℕ, List as Items, ◌∷◌, ◌≤◌, false, IsTrue};
 ghost use Rattle.json_text.specs.Value.{IsCompact};
 ghost use Rattle.json_text.specs.Characters.{is_opening};
-ghost use Rattle.scene_json.specs.Passes.{behind_string};
+ghost use Rattle.scene_json.specs.inner.Passes.{behind_string};
 
 use json_text::{Raw, run_end};
 

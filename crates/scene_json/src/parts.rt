@@ -8,7 +8,7 @@ ghost use Rattle.json_text.specs.Compact.{Member as Pair, array_text, object_tex
 ghost use Rattle.json_text.specs.Members.{pairs};
 ghost use Rattle.json_text.specs.Parts.{AreMembers};
 ghost use Rattle.json_text.specs.Value.{IsCompact};
-ghost use Rattle.scene_json.specs.Passes.{Compacted, EndsAt, StandHere, HaveEnded, GoesOn};
+ghost use Rattle.scene_json.specs.inner.Passes.{Compacted, EndsAt, StandHere, HaveEnded, GoesOn};
 ghost use Rattle.scene_json.specs.Walks.{AreLeft, AreBehind, AreTakenTo, IsTakenApart};
 
 use crate::nesting::after_string;

@@ -77,7 +77,8 @@ held-more id (other ∷ ids) q =
           ∙ or-turned (bytes_eq q other) (bytes_eq q id) (is_among ids q)
       | false ↦
           elim (bytes_eq id other) as (λ b. bytes_eq id other ≡ b
-          → is_among (if b then id ∷ ids else id ∷ other ∷ ids) q ≡ (bytes_eq q id || (bytes_eq q other || is_among ids q))) [
+          → is_among (if b then id ∷ ids else id ∷ other ∷ ids) q
+          ≡ (bytes_eq q id || (bytes_eq q other || is_among ids q))) [
             | true ↦ λ same. or-same (bytes_eq q id) (bytes_eq q other) (is_among ids q)
                 (ap (bytes_eq q) (bytes_eq-true id other same))
             | false ↦ λ apart. refl

@@ -49,8 +49,7 @@ fresh = record { state = nothing; taken = [] }
 unfoldable pub delivered : List ElementValue → Seat → Seat
 delivered list s = record {
   state = after_delivery list s.state;
-  taken =
-      s.taken ++ free_elements s.state.held list;
+  taken = s.taken ++ free_elements s.state.held list;
 }
 
 -- the held ids, in the order of their bytes, with one more, and without one

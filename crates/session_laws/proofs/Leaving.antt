@@ -18,7 +18,6 @@ use Rattle.undoing.specs.Carrying.{taken_all}
 use Rattle.undoing.specs.Differing.{differ}
 use Rattle.undoing.specs.Entries.{IsEntry, AreEntries, IsGiven}
 use Rattle.undoing.specs.Leaving.{Leaves, LeavesOthers, StepLeavesOthers}
-use Rattle.elem.specs.Stamp.{stamped}
 use Rattle.undoing.specs.Steps.{Turn, given, step}
 use Rattle.undoing.specs.Undoing.{undone}
 use Rattle.undoing.proofs.CallerLemmas.{differ-false, found-is, undone-leaves, given-each, given-all, given-rise, given-taken, step-turn, sought-entries, undone-stamp, undone-element, restamped}

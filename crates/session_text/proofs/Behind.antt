@@ -10,7 +10,8 @@ use Rattle.json_reader.specs.Faults.{IsFirstFault}
 use Rattle.json_reader.specs.declared.fault.JsonFault.{JsonFault}
 use Rattle.session_text.specs.Events.{HeaderText, EventText, header}
 use Rattle.session_text.specs.Sessions.{most_events, IsTextFaultAt, made_after, EventsLead, LeadTo, IsSessionOf, IsSessionFault}
-use Rattle.session_text.specs.Taken.{TakesText, IsNextFault, is_full, texts_in, LeadsUpTo}
+use Rattle.session_text.specs.Taken.{TakesText, IsNextFault, is_full, texts_in}
+use Rattle.session_text.specs.inner.Taken.{LeadsUpTo}
 use Rattle.session_text.specs.declared.fault.TextFault.{TextFault}
 use Rattle.session_text.specs.declared.fault.TextFault.TheVariants.{Json}
 use Rattle.session_text.specs.declared.fault.SessionFault.TheVariants.{In, TooMany}

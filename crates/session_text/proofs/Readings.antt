@@ -3,7 +3,8 @@ use Rattle.std.proofs.Common.{◌≡◌, inl, inr, Result, Ok, Err, IfOk, refl, 
 use Rattle.board_base.specs.declared.stop.Stop.{Stop}
 use Rattle.board_base.specs.declared.stop.Stop.TheVariants.{Fault, Memory}
 use Rattle.elem_read.proofs.CallerLemmas.{Decided}
-use Rattle.session_text.specs.Reads.{Or, Gives, Then, Answers, IsReadResult}
+use Rattle.session_text.specs.Reads.{Or, Gives, Then, Answers}
+use Rattle.session_text.specs.inner.Reads.{IsReadResult}
 use Rattle.session_text.specs.Reads.Then.{goes_on, ends}
 use Rattle.session_text.specs.declared.fault.TextFault.{TextFault}
 

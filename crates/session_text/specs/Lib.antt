@@ -8,3 +8,4 @@ pub mod Names
 pub mod Reads
 pub mod Sessions
 pub mod Taken
+pub mod inner

@@ -47,8 +47,3 @@ abbrev pub Answers : {A : Type 0} → (Result A TextFault → Type 0) → Result
 Answers Reads (Ok x) = Reads (Ok x)
 Answers Reads (Err (Fault fault)) = Reads (Err fault)
 Answers Reads (Err Memory) = Unit {0}
-
--- A call gives what is read. Only contracts of private functions cite this.
-pub record IsReadResult {A : Type 0} (Reads : Result A TextFault
-    → Type 0) (result : Result A (Stop TextFault)) : Type 0 where
-  pub read : Answers Reads result

@@ -2,7 +2,7 @@
 use Rattle.std.specs.Prelude.{◌≡◌, ℕ, ◌+◌, ◌==◌, List, [], ◌∷◌, ◌++◌, Bool, false, Option, Some, None, IfSome, IfNone, Ok, Err, length}
 use Rattle.session_text.specs.Events.{HeaderText, EventText, header}
 use Rattle.session_text.specs.Facts.{IsSession}
-use Rattle.session_text.specs.Sessions.{most_events, made_after, LeadTo}
+use Rattle.session_text.specs.Sessions.{most_events, made_after}
 use Rattle.session_text.specs.declared.event.Event.{Event}
 use Rattle.session_text.specs.declared.fault.TextFault.{TextFault}
 use Rattle.session_text.specs.declared.header.Header.{Header}
@@ -58,9 +58,3 @@ pub record IsFeed (head : Option Header) (events : List Event) (made : ℕ) : Ty
   pub kept : IfSome (session_so_far head events) IsSession
   pub counted : made ≡ made_after 0 events
   pub begun : IfNone head (events ≡ [])
-
--- The texts of the session so far lead up to the offset.
-abbrev pub LeadsUpTo : List ℕ → Option Session → ℕ → Type 0
-LeadsUpTo bytes None at = at ≡ 0
-LeadsUpTo bytes (Some session) at =
-    LeadTo bytes (header session.replicas session.seed session.scene) session.events at

@@ -2,7 +2,8 @@
 
 ghost use Rattle.json_text.specs.Members.{pairs};
 ghost use Rattle.session_text.specs.Commands.{IsAsked, IsClipIn, IsDrawnAs, ClipOf, ElementOf, IdsAnd, EndOf, CommandNamed, CommandOf};
-ghost use Rattle.session_text.specs.Reads.{MemberOf, IsReadResult};
+ghost use Rattle.session_text.specs.Reads.{MemberOf};
+ghost use Rattle.session_text.specs.inner.Reads.{IsReadResult};
 ghost use Rattle.session_text.specs.declared.command.Asked.TheVariants as asks;
 ghost use Rattle.session_text.specs.declared.name.MemberName.TheVariants as names;
 

@@ -5,7 +5,8 @@ ghost use Rattle.json_text.specs.Members.{pairs};
 ghost use Rattle.elem_read.specs.Faults.{Lacks};
 ghost use Rattle.elem.specs.Forms.{IsText, IsWholeNumber, IsObject};
 ghost use Rattle.session_text.specs.Forms.{IsFrom, IsThere, IsArray, IsShallow, AreIds, IsCapture, IsSide, IsSpot, IsRest};
-ghost use Rattle.session_text.specs.Reads.{MemberOf, IsReadResult};
+ghost use Rattle.session_text.specs.Reads.{MemberOf};
+ghost use Rattle.session_text.specs.inner.Reads.{IsReadResult};
 ghost use Rattle.session_text.specs.declared.name.MemberName.TheVariants as names;
 
 use crate::fault::TextFault;

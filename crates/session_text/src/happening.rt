@@ -3,7 +3,8 @@
 ghost use Rattle.std.specs.Prelude.{ℕ};
 ghost use Rattle.json_text.specs.Members.{pairs};
 ghost use Rattle.session_text.specs.Events.{IsHappening, AreDrawnAs, TimeOf, HeldOf, CommandIn, ElementsIn, EventNamed, EventOf, EventText};
-ghost use Rattle.session_text.specs.Reads.{MemberOf, IsReadResult};
+ghost use Rattle.session_text.specs.Reads.{MemberOf};
+ghost use Rattle.session_text.specs.inner.Reads.{IsReadResult};
 ghost use Rattle.session_text.specs.declared.happening.Happening.TheVariants as happenings;
 ghost use Rattle.session_text.specs.declared.name.MemberName.TheVariants as names;
 

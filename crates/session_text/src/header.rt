@@ -4,7 +4,7 @@ ghost use Rattle.std.specs.Prelude.{◌≡◌, Some, codes, option_copied};
 ghost use Rattle.json_text.specs.Members.{pairs};
 ghost use Rattle.scene_file.specs.Reading.{value_unless_null};
 ghost use Rattle.session_text.specs.Events.{SceneOf, HeaderOf, HeaderText};
-ghost use Rattle.session_text.specs.Reads.{IsReadResult};
+ghost use Rattle.session_text.specs.inner.Reads.{IsReadResult};
 
 use crate::fault::TextFault;
 use crate::fields::{number_from, object, whole};

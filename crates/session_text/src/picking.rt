@@ -4,7 +4,8 @@ ghost use Rattle.std.specs.Prelude.{Some, IfOk, MatchOption};
 ghost use Rattle.json_text.specs.Members.{pairs};
 ghost use Rattle.elem_read.specs.Faults.{Lacks};
 ghost use Rattle.session_text.specs.Forms.{IsFrom, IsPair, IsPick, ArePicks, HasPicks};
-ghost use Rattle.session_text.specs.Reads.{MemberOf, IsReadResult};
+ghost use Rattle.session_text.specs.Reads.{MemberOf};
+ghost use Rattle.session_text.specs.inner.Reads.{IsReadResult};
 ghost use Rattle.session_text.specs.declared.name.MemberName.TheVariants as names;
 
 use crate::event::Pick;

@@ -4,7 +4,8 @@ ghost use Rattle.std.specs.Prelude.{◌≡◌, ◌⊎◌, ◌<◌, ◌≤◌, tr
 ghost use Rattle.json_text.specs.Characters.{is_blank};
 ghost use Rattle.session_text.specs.Facts.{IsSession};
 ghost use Rattle.session_text.specs.Sessions.{IsSessionOf, IsSessionFault};
-ghost use Rattle.session_text.specs.Taken.{is_full, LeadsUpTo};
+ghost use Rattle.session_text.specs.Taken.{is_full};
+ghost use Rattle.session_text.specs.inner.Taken.{LeadsUpTo};
 ghost use Rattle.session_text.specs.declared.fault.SessionFault.{SessionFault};
 
 use crate::fault::{SessionFault, TextFault};

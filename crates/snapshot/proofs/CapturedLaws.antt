@@ -26,7 +26,8 @@ use Rattle.elem_store.proofs.CallerLemmas.{ids-set, is_taken-gap, HasTaken-inser
 use Rattle.undoing.specs.Carrying.{with_put}
 use Rattle.undoing.specs.Differing.{same_kind}
 use Rattle.undoing.specs.Undoing.{undone, undone_in}
-use Rattle.snapshot.specs.Carried.{IsCarried, HasCarried, HasPut, carried_to, with_made}
+use Rattle.snapshot.specs.Carried.{IsCarried, HasCarried}
+use Rattle.snapshot.specs.inner.Carried.{HasPut, carried_to, with_made}
 use Rattle.snapshot.proofs.PutLaws.{HasPut-put}
 
 -- how the id of an element compares with an id

@@ -18,7 +18,7 @@ use Rattle.undoing.specs.Carrying.{with_put, with_all_put, taken, taken_all, fol
 use Rattle.undoing.specs.Differing.{same_kind}
 use Rattle.undoing.specs.Undoing.{undone}
 use Rattle.undoing.proofs.CallerLemmas.{taken-has, put-rising}
-use Rattle.snapshot.specs.Carried.{carried_to, with_made}
+use Rattle.snapshot.specs.inner.Carried.{carried_to, with_made}
 use Rattle.snapshot.specs.Pending.{pairs_since}
 use Rattle.snapshot.proofs.PutLaws.{put-below, put-there, all-rise, all-each, all-append, all-below, all-cover, taken_all-put}
 

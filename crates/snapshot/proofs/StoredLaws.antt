@@ -17,7 +17,8 @@ use Rattle.undoing.specs.Carrying.{with_put, carried, carried_all, carried_over,
 use Rattle.undoing.specs.Differing.{same_kind, is_changed, pending}
 use Rattle.undoing.specs.Undoing.{undone, undone_in}
 use Rattle.undoing.proofs.CallerLemmas.{put-rising, same_kind-same}
-use Rattle.snapshot.specs.Carried.{carried_to, with_made, AreOfStoredKinds}
+use Rattle.snapshot.specs.Carried.{AreOfStoredKinds}
+use Rattle.snapshot.specs.inner.Carried.{carried_to, with_made}
 use Rattle.snapshot.specs.Pending.{pairs_since}
 use Rattle.snapshot.proofs.CapturedLaws.{found-id, made-id, none-made}
 use Rattle.snapshot.proofs.PutLaws.{put-each}

@@ -14,8 +14,9 @@ use Rattle.elem_store.specs.Updates.{element_of, ids_of, is_taken, takings, Taki
 use Rattle.elem_store.proofs.CallerLemmas.{same_id, same_elements, is_at-among, is_at-bytes}
 use Rattle.undoing.specs.Carrying.{with_put, with_all_put, taken, taken_all, carried, carried_over, carried_all}
 use Rattle.undoing.proofs.CallerLemmas.{put-rising}
-use Rattle.snapshot.specs.Carried.{carried_to, with_made}
-use Rattle.snapshot.specs.Touched.{AreUntouched, StillTouches, IsTouched, HasTouched, HasPutStored}
+use Rattle.snapshot.specs.inner.Carried.{carried_to, with_made}
+use Rattle.snapshot.specs.Touched.{AreUntouched, StillTouches, HasTouched}
+use Rattle.snapshot.specs.inner.Touched.{IsTouched, HasPutStored}
 use Rattle.snapshot.proofs.CapturedLaws.{found-id, made-id}
 use Rattle.snapshot.proofs.PutLaws.{put-each, put-below, put-there, all-rise, all-each}
 use Rattle.snapshot.proofs.PlanLaws.{carried_over-to, made-rises, takings-more}

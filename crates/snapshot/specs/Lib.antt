@@ -1,3 +1,4 @@
 pub mod Carried
 pub mod Pending
 pub mod Touched
+pub mod inner

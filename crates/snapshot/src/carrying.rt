@@ -8,7 +8,8 @@ ghost use Rattle.elem_store.specs.Updates as updates;
 ghost use Rattle.elem_store.specs.Updates.{element_of, ids_of, is_taken, takings};
 ghost use Rattle.undoing.specs.Carrying.{with_put, with_all_put, carried_over, carried_all};
 ghost use Rattle.undoing.specs.Undoing.{undone};
-ghost use Rattle.snapshot.specs.Carried.{IsCarried, HasCarried, carried_to};
+ghost use Rattle.snapshot.specs.Carried.{IsCarried, HasCarried};
+ghost use Rattle.snapshot.specs.inner.Carried.{carried_to};
 
 use crate::captured::{find, put, put_made};
 use delta::{apply, are_one_kind, difference};

@@ -8,7 +8,8 @@ ghost use Rattle.delta.specs.Pairs.{Pair, IsChanged, IsUnchanged, EntryStandsFor
 ghost use Rattle.elem_store.specs.Updates as updates;
 ghost use Rattle.undoing.specs.Carrying.{with_put, with_all_put};
 ghost use Rattle.snapshot.specs.Pending.{pairs_since};
-ghost use Rattle.snapshot.specs.Touched.{AreUntouched, HasPutStored};
+ghost use Rattle.snapshot.specs.Touched.{AreUntouched};
+ghost use Rattle.snapshot.specs.inner.Touched.{HasPutStored};
 
 use crate::captured::{find, put};
 use delta::{Part, are_one_kind, difference};

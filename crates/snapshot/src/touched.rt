@@ -1,7 +1,8 @@
 //! The ids of elements that were stored since the last capture.
 
 ghost use Rattle.std.specs.Prelude.{◌≡◌, [], OnOk};
-ghost use Rattle.snapshot.specs.Touched.{IsTouched, HasTouched, StillTouches, TouchesNoOther, TouchesOnly};
+ghost use Rattle.snapshot.specs.Touched.{HasTouched, StillTouches, TouchesOnly};
+ghost use Rattle.snapshot.specs.inner.Touched.{IsTouched, TouchesNoOther};
 
 use elem::Element;
 use json_text::Text;

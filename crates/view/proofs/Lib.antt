@@ -5,6 +5,7 @@ pub mod Originals
 pub mod SceneOrder
 pub mod SettledLaws
 pub mod ShownLaws
+pub mod NamerLaws
 mod SpotLaws
 pub mod ContentLaws
 pub mod StepLaws

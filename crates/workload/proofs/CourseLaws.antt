@@ -12,7 +12,8 @@ use Rattle.session_text.specs.declared.event.Event.{Event}
 use Rattle.session_text.proofs.CallerLemmas.{made-more}
 use Rattle.rand_pcg.specs.Lcg.{Lcg}
 use Rattle.workload.specs.Deeds.{most_drilled, row_of, order_of, deed_of, messages_of, course}
-use Rattle.workload.specs.Draws.{drawn, IsDrawn}
+use Rattle.workload.specs.Draws.{drawn}
+use Rattle.workload.specs.inner.Draws.{IsDrawn}
 use Rattle.workload.specs.Drills.{event_of}
 use Rattle.workload.specs.Facts.{IsOfReplicas}
 use Rattle.workload.specs.Texts.{deed_text}

@@ -1,5 +1,5 @@
 -- What is drawn for the events of a drill, from the generator of its seed. This project's own.
-use Rattle.std.specs.Prelude.{ℕ, ◌%◌, ◌<◌}
+use Rattle.std.specs.Prelude.{ℕ, ◌%◌}
 use Rattle.rand_pcg.specs.Lcg.{Lcg}
 use Rattle.drawn_words.specs.Words.{next_word, next_generator}
 use Rattle.workload.specs.declared.draws.Draws.{Draws}
@@ -27,11 +27,3 @@ drawn generator =
 unfoldable pub after_draws : Lcg → Lcg
 after_draws generator =
     next_generator (next_generator (next_generator (next_generator (next_generator generator))))
-
--- The numbers are below their limits.
-pub record IsDrawn (draws : Draws) : Type 0 where
-  pub at : draws.at < 4
-  pub row : draws.row < 24
-  pub element : draws.element < 200
-  pub other : draws.other < 200
-  pub capture : draws.capture < 8

@@ -4,3 +4,4 @@ pub mod Drills
 pub mod Elements
 pub mod Facts
 pub mod Texts
+pub mod inner

@@ -2,7 +2,7 @@
 
 ghost use Rattle.std.specs.Prelude.{◌≡◌, ◌<◌, ◌≤◌};
 ghost use Rattle.workload.specs.Deeds as deeds;
-ghost use Rattle.workload.specs.Draws.{IsDrawn};
+ghost use Rattle.workload.specs.inner.Draws.{IsDrawn};
 
 use crate::draws::Draws;
 use board_commands::{Capture, Side};

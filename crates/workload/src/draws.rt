@@ -2,7 +2,8 @@
 
 ghost use Rattle.std.specs.Prelude.{◌≡◌, ◌<◌, ◌%◌};
 ghost use Rattle.drawn_words.specs.Words.{next_generator, next_word};
-ghost use Rattle.workload.specs.Draws.{IsDrawn, after_draws, drawn};
+ghost use Rattle.workload.specs.Draws.{after_draws, drawn};
+ghost use Rattle.workload.specs.inner.Draws.{IsDrawn};
 
 use drawn_words::draw_word;
 use rand_pcg::Pcg32;

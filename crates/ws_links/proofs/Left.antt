@@ -6,7 +6,7 @@ use Rattle.std.specs.Prelude.{slice_index_or}
 use Rattle.std.specs.List.{concat}
 use Rattle.std.proofs.lemmas.List.{drop-append-le, drop_at, drop_all}
 use Rattle.std.proofs.Math.Seq.{take-length}
-use Rattle.ws_links.specs.Leaving.{Outgoing, first_of, first_left, has_reply_first}
+use Rattle.ws_links.specs.inner.Leaving.{Outgoing, first_of, first_left, has_reply_first}
 
 -- all but the first so many
 pub rest-taken : (n : ℕ) (xs : List ℕ) → take (length xs - n) (drop n xs) ≡ drop n xs

@@ -20,7 +20,7 @@ pub(crate) struct Buffer {
 
 impl Model for Buffer {
     ghost use Rattle.std.specs.Prelude.{◌≤◌, drop, vec_len, vec_capacity};
-    ghost use Rattle.ws_links.specs.Leaving.{Kept};
+    ghost use Rattle.ws_links.specs.inner.Leaving.{Kept};
 
     ghost Value = { Kept };
 

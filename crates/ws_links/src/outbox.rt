@@ -2,7 +2,7 @@
 
 ghost use Rattle.std.specs.Prelude.{◌≡◌, ◌≤◌, ◌++◌, length, drop, IsTrue, IsFalse, OnOk, OnErr};
 ghost use Rattle.ws_links.specs.inner.Sums.{capped};
-ghost use Rattle.ws_links.specs.Leaving.{frames_left, has_reply_first, first_left};
+ghost use Rattle.ws_links.specs.inner.Leaving.{frames_left, has_reply_first, first_left};
 
 use crate::buffer::Buffer;
 use crate::frames::{PLACE, rest_of, space_of};
@@ -34,7 +34,7 @@ pub(crate) struct Outbox {
 
 impl Model for Outbox {
     ghost use Rattle.std.specs.Prelude.{◌≤◌, length, map};
-    ghost use Rattle.ws_links.specs.Leaving.{Outgoing, first_of};
+    ghost use Rattle.ws_links.specs.inner.Leaving.{Outgoing, first_of};
 
     ghost Value = { Outgoing };
 

@@ -1,6 +1,7 @@
 -- What a fault of a run comes from. Only contracts of private functions cite this.
 use Rattle.board_ends.specs.Ends.{SourceEnd, SinkEnd}
-use Rattle.commands.specs.Ends.{Span, IsInputFault, IsRefusalOf, WasDoneInPart, limit_of}
+use Rattle.commands.specs.Ends.{Span, IsRefusalOf, WasDoneInPart, limit_of}
+use Rattle.commands.specs.inner.Ends.{IsInputFault}
 use Rattle.commands.specs.declared.status.Fault.{Fault}
 use Rattle.commands.specs.declared.status.Fault.TheVariants as fault
 use Rattle.commands.specs.declared.words.ProgramCommand.{ProgramCommand}

@@ -5,7 +5,8 @@ use Rattle.library.specs.Best.{AreBest}
 use Rattle.library.specs.Libraries.{HaveItems}
 use Rattle.library.specs.declared.item.Item.{Item}
 use Rattle.commands.specs.Ends.{limit}
-use Rattle.commands.specs.Shelves.{HasTexts, IsShelfRefusal, ShelfSoFar, shelf_refusal_of, shelf_seen}
+use Rattle.commands.specs.Shelves.{HasTexts, IsShelfRefusal}
+use Rattle.commands.specs.inner.Shelves.{ShelfSoFar, shelf_refusal_of, shelf_seen}
 use Rattle.commands.proofs.Given.{unread}
 use Rattle.commands.proofs.ReadShelves.{shelf-read, shelf-refused}
 use Rattle.commands.proofs.input.some_shelf.Goals as goal

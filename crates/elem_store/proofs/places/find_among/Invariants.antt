@@ -1,6 +1,6 @@
 use Rattle.std.proofs.Common.{◌+◌, ◌-◌, ◌≤◌}
 use Rattle.elem_store.specs.inner.Indexed.{woven}
-use Rattle.elem_store.specs.Places.{IsBetween}
+use Rattle.elem_store.specs.inner.Places.{IsBetween}
 use Rattle.elem_store.proofs.places.find_among.Given as goal
 
 -- the id is between the bounds, which are within the stretch

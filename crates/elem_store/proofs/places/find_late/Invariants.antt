@@ -1,6 +1,6 @@
 use Rattle.std.proofs.Common.{◌+◌, ◌-◌, ◌≤◌, vec_len}
 use Rattle.elem_store.specs.inner.Indexed.{woven, AreAside}
-use Rattle.elem_store.specs.Places.{IsBetween}
+use Rattle.elem_store.specs.inner.Places.{IsBetween}
 use Rattle.elem_store.proofs.places.find_late.Given as goal
 
 -- the id is between the bounds, and so are none of the late places but those that are left

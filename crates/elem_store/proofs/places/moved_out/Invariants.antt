@@ -1,6 +1,7 @@
 use Rattle.std.proofs.Common.{◌≡◌, ℕ, ◌<◌, ◌≤◌, length, get_or, take, slice_get}
 use Rattle.std.specs.Prelude.{filter_map}
-use Rattle.elem_store.specs.Places.{elements_at, slot_at}
+use Rattle.elem_store.specs.Places.{elements_at}
+use Rattle.elem_store.specs.inner.Places.{slot_at}
 use Rattle.elem_store.proofs.places.moved_out.Given as goal
 
 -- those at the indices so far are moved out, and the slots of the others still hold theirs

@@ -1,6 +1,7 @@
 -- An entry that isn't empty stands on the stack.
 use Rattle.std.proofs.Common.{◌≡◌, None, IfOk, IfErr, IfSome, sym, subst}
-use Rattle.history.specs.Stacks.{AreUnseen, StopsAt, OnFull, IsPlanned}
+use Rattle.history.specs.Stacks.{AreUnseen, StopsAt, OnFull}
+use Rattle.history.specs.inner.Stacks.{IsPlanned}
 use Rattle.history.proofs.PlanLaws.{with-none, with-more}
 use Rattle.history.proofs.step.plan_noted.Goals as goal
 

@@ -1,7 +1,8 @@
 -- An entry on top that isn't seen is passed over.
 use Rattle.std.proofs.Common.{◌++◌, [], ◌∷◌, IfSome, sym, subst}
 use Rattle.std.proofs.lemmas.Result.{err_from_is_err_and}
-use Rattle.history.specs.Stacks.{StopsAt, IsPlanned}
+use Rattle.history.specs.Stacks.{StopsAt}
+use Rattle.history.specs.inner.Stacks.{IsPlanned}
 use Rattle.history.proofs.PlanLaws.{planned-over, stops-over, unseen-over}
 use Rattle.history.proofs.StepLaws.{OnFull-weaker}
 use Rattle.history.proofs.step.plan_over.Goals as goal

@@ -1,6 +1,7 @@
 -- What comes of the part is added, or nothing comes of it.
 use Rattle.std.proofs.Common.{◌≡◌, ◌++◌, [], ◌∷◌, None, sym, subst, subst₂}
-use Rattle.history.specs.Steps.{IsStep, ComesOf}
+use Rattle.history.specs.Steps.{IsStep}
+use Rattle.history.specs.inner.Steps.{ComesOf}
 use Rattle.history.proofs.StepLaws.{step-same, step-more}
 use Rattle.history.proofs.step.revert.Goals as goal
 use Rattle.history.proofs.step.revert.Goals.{in-Some+in_ok-add, in_default}

@@ -1,6 +1,7 @@
 use Rattle.std.proofs.Common.{◌≡◌, ℕ, ◌++◌, drop, Err, ap, subst}
 use Rattle.intake.specs.declared.reading.Stopped.TheVariants as stopped
-use Rattle.intake.specs.Texts.{IsLed, IsStopped}
+use Rattle.intake.specs.Texts.{IsStopped}
+use Rattle.intake.specs.inner.Texts.{IsLed}
 use Rattle.intake.proofs.Leads.{led_text, refused_there, faulty_there}
 use Rattle.intake.proofs.reading.next_text.Goals as goal
 

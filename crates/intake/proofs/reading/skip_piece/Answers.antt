@@ -5,7 +5,8 @@ use Rattle.json_text.specs.Characters.{is_space}
 use Rattle.json_text.proofs.CallerLemmas.{run-blank}
 use Rattle.json_reader.specs.Feeding.{IsAt}
 use Rattle.intake.specs.declared.reading.Stopped.TheVariants as stopped
-use Rattle.intake.specs.Texts.{IsLed, IsStopped}
+use Rattle.intake.specs.Texts.{IsStopped}
+use Rattle.intake.specs.inner.Texts.{IsLed}
 use Rattle.intake.proofs.Leads.{extra_there, skipped_on, skipped_fault}
 use Rattle.intake.proofs.reading.skip_piece.Goals as goal
 

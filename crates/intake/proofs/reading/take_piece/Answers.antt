@@ -1,6 +1,6 @@
 use Rattle.std.proofs.Common.{◌≡◌, not, ℕ, ◌+◌, ◌-◌, List, ◌++◌, Ok, length, drop, take, length-drop, sym, ap, subst, ◌∙◌, arith}
 use Rattle.std.proofs.lemmas.List.{take_all, drop_all, drop-drop}
-use Rattle.intake.specs.Texts.{IsLed, StandsIn}
+use Rattle.intake.specs.inner.Texts.{IsLed, StandsIn}
 use Rattle.intake.proofs.Leads.{stands_more, used_so_far, stands_stopped, none_of}
 use Rattle.intake.proofs.reading.take_piece.Goals as goal
 

@@ -1,6 +1,6 @@
 use Rattle.std.proofs.Common.{◌≡◌, ℕ, ◌+◌, ◌-◌, ◌*◌, ◌^◌, ◌<◌, ◌≤◌, List, [], ◌++◌, None, cond, drop, length}
 use Rattle.std.specs.Prelude.{is_none, min}
-use Rattle.intake.specs.Texts.{StandsIn}
+use Rattle.intake.specs.inner.Texts.{StandsIn}
 use Rattle.intake.proofs.reading.take_piece.Given as goal
 
 -- the texts of the stream so far and of the piece up to the offset are read

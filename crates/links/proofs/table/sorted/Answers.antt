@@ -1,6 +1,6 @@
 use Rattle.std.proofs.Common.{rules}
 use Rattle.std.proofs.lemmas.List.Sorted.{answers_always}
-use Rattle.links.specs.Tables.{row_less}
+use Rattle.links.specs.inner.Tables.{row_less}
 use Rattle.links.proofs.Sorting.{row_less-order, kept-under}
 use Rattle.links.proofs.table.sorted.Goals as goal
 

@@ -11,7 +11,7 @@ use Rattle.json_text.specs.declared.text.Member.{Member}
 use Rattle.scene_json.specs.TheOne.{IsTheOne}
 use Rattle.json_text.proofs.CallerLemmas.{Value-deeper}
 use Rattle.scene_json.proofs.CallerLemmas.{names-pairs}
-use Rattle.restore_table.specs.Merged.{AreOldIds, AreUpdated}
+use Rattle.restore_table.specs.inner.Merged.{AreOldIds, AreUpdated}
 use Rattle.restore_table.specs.Restored.{listing_name, old_name, listing_text}
 use Rattle.restore_table.proofs.Listings.{updated-none, updated-wrong, updated-listing}
 use Rattle.restore_table.proofs.Nesting.{nest-pairs, members-nest, filter-nests, push-nests}

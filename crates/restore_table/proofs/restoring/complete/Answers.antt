@@ -7,7 +7,7 @@ use Rattle.std.proofs.lemmas.List.Sorted.{ranks_by, answers_always, IsPermutatio
 use Rattle.json_text.specs.Members.{pairs}
 use Rattle.json_text.specs.declared.text.Member.{Member}
 use Rattle.scene_json.proofs.CallerLemmas.{rising_from_sort, names-pairs}
-use Rattle.restore_table.specs.Merged.{IsWholeAfter}
+use Rattle.restore_table.specs.inner.Merged.{IsWholeAfter}
 use Rattle.restore_table.specs.Table.{defaults}
 use Rattle.restore_table.proofs.Merging.{whole-completed}
 use Rattle.restore_table.proofs.restoring.complete.Goals as goal

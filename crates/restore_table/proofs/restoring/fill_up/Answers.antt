@@ -1,7 +1,7 @@
 -- Each row or member in turn.
 use Rattle.std.proofs.Common.{rules, ◌≡◌, ◌∷◌, Ordering, sym, ◌∙◌, length-set, map}
 use Rattle.std.proofs.lemmas.List.{nil_from_length}
-use Rattle.restore_table.specs.Merged.{row_pair}
+use Rattle.restore_table.specs.inner.Merged.{row_pair}
 use Rattle.restore_table.proofs.Merging.{order_at, within, made-before, made-there, made-behind, made-all}
 use Rattle.restore_table.proofs.restoring.fill_up.Goals.{in-Less+in_ok-insert-in-Less, in-Equal, in-Greater}
 use Rattle.restore_table.proofs.restoring.fill_up.Goals as goal

@@ -3,7 +3,8 @@ use Rattle.std.specs.List.{AllByRecursion}
 use Rattle.json_text.specs.Members.{pairs}
 use Rattle.json_text.specs.Value.{IsCompact}
 use Rattle.restore_table.specs.declared.table.Row.{Row}
-use Rattle.restore_table.specs.Merged.{row_pair, merged}
+use Rattle.restore_table.specs.Merged.{merged}
+use Rattle.restore_table.specs.inner.Merged.{row_pair}
 use Rattle.restore_table.specs.Table.{defaults}
 use Rattle.restore_table.proofs.restoring.fill_up.Given as goal
 

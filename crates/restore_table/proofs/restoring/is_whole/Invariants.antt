@@ -1,6 +1,6 @@
 use Rattle.std.proofs.Common.{[], drop, map, option_copied}
 use Rattle.json_text.specs.Members.{pairs}
-use Rattle.restore_table.specs.Merged.{row_pair, name_of, RiseAfter, IsWholeAfter}
+use Rattle.restore_table.specs.inner.Merged.{row_pair, name_of, RiseAfter, IsWholeAfter}
 use Rattle.restore_table.specs.Table.{defaults}
 use Rattle.restore_table.proofs.restoring.is_whole.Given as goal
 

@@ -6,7 +6,7 @@ use Rattle.std.specs.Bool.{then_some}
 use Rattle.std.proofs.lemmas.List.{nil_from_length}
 use Rattle.std.specs.declared.cmp.Ordering.TheVariants.{Less}
 use Rattle.json_text.specs.Members.{pair_of}
-use Rattle.restore_table.specs.Merged.{row_pair, name_of}
+use Rattle.restore_table.specs.inner.Merged.{row_pair, name_of}
 use Rattle.restore_table.proofs.Merging.{IsBeforeFirst, first_name, rise-before, whole-row, whole-member}
 use Rattle.restore_table.proofs.restoring.rows_behind.Goals.{in-Some+else-eq+else-not-is_less, in_default}
 use Rattle.restore_table.proofs.restoring.rows_behind.Goals as goal

@@ -1,6 +1,6 @@
 use Rattle.std.proofs.Common.{◌≡◌, map, drop}
 use Rattle.scene_json.specs.Named.{value_at}
-use Rattle.restore_table.specs.Merged.{row_pair}
+use Rattle.restore_table.specs.inner.Merged.{row_pair}
 use Rattle.restore_table.proofs.table.default_of.Given as goal
 
 abbrev pub invariant-loop-row : goal.invariant-loop-row

@@ -1,7 +1,8 @@
 -- One event: how it ends the room, or that it was a round.
 use Rattle.std.proofs.Common.{◌≡◌, ◌+◌, ◌≤◌, Some, refl, sym, ap, ◌∙◌, arith}
 use Rattle.board_ends.specs.Events.{opening_of}
-use Rattle.room_core.specs.Serving.{IsServedRound, end_by, end_of, serving_of}
+use Rattle.room_core.specs.Serving.{end_by, end_of, serving_of}
+use Rattle.room_core.specs.inner.Serving.{IsServedRound}
 use Rattle.room_core.proofs.Tries.{tells-nothing, tells-event}
 use Rattle.room_core.proofs.Served.{one_opening, below_limits, ended-memory, ended-full, ended-cut, ended-here, served-then, served-round, err_part, ok_part}
 use Rattle.room_core.proofs.serving.serve_round.Goals as goal

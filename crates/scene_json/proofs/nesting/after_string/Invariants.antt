@@ -1,5 +1,5 @@
 use Rattle.std.proofs.Common.{◌≡◌, ◌≤◌, ◌-◌, false, length, drop}
-use Rattle.scene_json.specs.Passes.{behind_string}
+use Rattle.scene_json.specs.inner.Passes.{behind_string}
 use Rattle.scene_json.proofs.nesting.after_string.Given as goal
 
 abbrev pub invariant-loop-at : goal.invariant-loop-at

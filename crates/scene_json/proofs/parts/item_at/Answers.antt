@@ -3,7 +3,7 @@ use Rattle.json_text.specs.Compact.{object_text}
 use Rattle.json_text.specs.Members.{pairs}
 use Rattle.json_text.specs.Parts.{AreMembers}
 use Rattle.json_text.proofs.CallerLemmas.{drop-after}
-use Rattle.scene_json.specs.Passes.{EndsAt}
+use Rattle.scene_json.specs.inner.Passes.{EndsAt}
 use Rattle.scene_json.proofs.FirstBytes.{inside, object-here, object-first}
 use Rattle.scene_json.proofs.MembersLeft.{object-opened, all-ended}
 use Rattle.scene_json.proofs.parts.item_at.Goals as goal

@@ -3,7 +3,7 @@ use Rattle.json_text.specs.Parts.{AreMembers}
 use Rattle.json_text.specs.Compact.{Member as Pair, object_text}
 use Rattle.json_text.specs.Members.{pairs}
 use Rattle.json_text.proofs.CallerLemmas.{Value-Form, starts-same, object-starts, form-membered}
-use Rattle.scene_json.specs.Passes.{StandHere}
+use Rattle.scene_json.specs.inner.Passes.{StandHere}
 use Rattle.scene_json.proofs.MembersLeft.{object-opened, all-ended}
 use Rattle.scene_json.proofs.parts.members.Goals as goal
 use Rattle.scene_json.proofs.parts.members.Goals.{After-found-1}

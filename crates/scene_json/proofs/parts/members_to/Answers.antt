@@ -4,7 +4,7 @@ use Rattle.json_text.specs.Parts.{AreMembers}
 use Rattle.json_text.specs.Compact.{Member as Pair, array_text, object_text}
 use Rattle.json_text.specs.Members.{pairs}
 use Rattle.json_text.proofs.CallerLemmas.{Value-Form, starts-same, object-starts, form-membered}
-use Rattle.scene_json.specs.Passes.{StandHere, IsPassed, IsStopped, HaveEnded}
+use Rattle.scene_json.specs.inner.Passes.{StandHere, IsPassed, IsStopped, HaveEnded}
 use Rattle.scene_json.proofs.ItemsLeft.{array-opened}
 use Rattle.scene_json.proofs.MembersLeft.{object-opened, stopped-here, ended-here}
 use Rattle.scene_json.proofs.parts.members_to.Goals as goal

@@ -1,6 +1,6 @@
 use Rattle.std.proofs.Common.{ℕ, List, ◌-◌, length, length-drop, drop, arith, sym, ap, subst}
 use Rattle.std.proofs.Math.Seq.{take_all}
-use Rattle.scene_json.specs.Passes.{Compacted}
+use Rattle.scene_json.specs.inner.Passes.{Compacted}
 use Rattle.scene_json.proofs.ItemsLeft.{between-is}
 use Rattle.scene_json.proofs.parts.next_end.Goals as goal
 

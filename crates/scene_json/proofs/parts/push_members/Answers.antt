@@ -6,7 +6,7 @@ use Rattle.json_text.specs.Tree.{object}
 use Rattle.json_text.specs.Compact.{Member, member_text}
 use Rattle.json_text.specs.Members.{pairs, pair_of}
 use Rattle.json_text.proofs.CallerLemmas.{Value-deeper}
-use Rattle.scene_json.specs.Passes.{StandHere, EndsAt, GoesOn, IsPassed}
+use Rattle.scene_json.specs.inner.Passes.{StandHere, EndsAt, GoesOn, IsPassed}
 use Rattle.scene_json.proofs.FirstBytes.{inside, array-here, array-first}
 use Rattle.scene_json.proofs.MembersLeft.{IsNextMember, behind_member, members-inside, members-none, members-next, quoted-here, value-here, end-here}
 use Rattle.scene_json.proofs.parts.push_members.Goals as goal

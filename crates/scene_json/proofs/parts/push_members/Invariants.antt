@@ -1,7 +1,7 @@
 use Rattle.std.proofs.Common.{◌≤◌, ◌-◌, ℕ, List, length, drop, option_copied}
 use Rattle.json_text.specs.Members.{pairs}
 use Rattle.json_text.specs.Compact.{Member}
-use Rattle.scene_json.specs.Passes.{StandHere}
+use Rattle.scene_json.specs.inner.Passes.{StandHere}
 use Rattle.scene_json.proofs.MembersLeft.{ArePassed}
 use Rattle.scene_json.proofs.parts.push_members.Given as goal
 

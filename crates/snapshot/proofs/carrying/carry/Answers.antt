@@ -4,7 +4,8 @@ use Rattle.elem.specs.ElementValue.{ElementValue}
 use Rattle.elem_store.specs.Updates.{element_of}
 use Rattle.delta.proofs.CallerLemmas.{OnOk-weaker}
 use Rattle.undoing.specs.Carrying.{carried_over}
-use Rattle.snapshot.specs.Carried.{IsCarried, HasCarried, carried_to, with_made}
+use Rattle.snapshot.specs.Carried.{IsCarried, HasCarried}
+use Rattle.snapshot.specs.inner.Carried.{carried_to, with_made}
 use Rattle.snapshot.proofs.CapturedLaws.{found-id, HasCarried-made}
 use Rattle.snapshot.proofs.PlanLaws.{carried_over-to}
 use Rattle.snapshot.proofs.carrying.carry.Goals as goal

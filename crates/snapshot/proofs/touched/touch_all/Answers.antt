@@ -3,7 +3,8 @@ use Rattle.std.proofs.Common.{◌≡◌, ◌<◌, ◌+◌, ◌++◌, [], ◌∷�
 use Rattle.std.proofs.lemmas.List.{take_more}
 use Rattle.elem.specs.ElementValue.{ElementValue}
 use Rattle.elem_store.specs.Updates.{element_of}
-use Rattle.snapshot.specs.Touched.{HasTouched, IsTouched, TouchesNoOther}
+use Rattle.snapshot.specs.Touched.{HasTouched}
+use Rattle.snapshot.specs.inner.Touched.{IsTouched, TouchesNoOther}
 use Rattle.snapshot.proofs.TouchedLaws.{touched-none, touched-more, none-split, none-take}
 use Rattle.snapshot.proofs.touched.touch_all.Goals as goal
 

@@ -1,5 +1,5 @@
 use Rattle.std.proofs.Common.{sym, subst}
-use Rattle.commands.specs.Shelves.{SayShelf, ShelfSoFar}
+use Rattle.commands.specs.inner.Shelves.{SayShelf, ShelfSoFar}
 use Rattle.commands.proofs.ReadShelves.{shelf-more}
 use Rattle.commands.proofs.Readers.{later-number}
 use Rattle.commands.proofs.taking.ShelvedReader.read.Goals as goal

@@ -1,5 +1,5 @@
 use Rattle.std.proofs.Common.{sym, ap, ◌∙◌}
-use Rattle.links.specs.Tables.{with_entries}
+use Rattle.links.specs.inner.Tables.{with_entries}
 use Rattle.links.proofs.Tabled.{arrow_entries-none, with_entries-row}
 use Rattle.links.proofs.names.Names.add_arrows.Goals as goal
 

@@ -1,7 +1,8 @@
 use Rattle.std.proofs.Common.{◌≡◌, map, take}
 use Rattle.elem.specs.ElementValue.{ElementValue}
 use Rattle.links.specs.Entries.{arrow_entry}
-use Rattle.links.specs.Tables.{row_element, with_entries, AreSeen}
+use Rattle.links.specs.Tables.{row_element}
+use Rattle.links.specs.inner.Tables.{with_entries, AreSeen}
 use Rattle.links.proofs.names.Names.add_arrows.Given as goal
 
 abbrev pub invariant-loop-row : goal.invariant-loop-row

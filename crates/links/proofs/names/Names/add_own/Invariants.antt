@@ -1,7 +1,7 @@
 use Rattle.std.proofs.Common.{◌≡◌, filter, take}
 use Rattle.links.specs.Arrows.{is_true_entry}
 use Rattle.links.specs.Entries.{first_entries}
-use Rattle.links.specs.Tables.{AreSeen}
+use Rattle.links.specs.inner.Tables.{AreSeen}
 use Rattle.links.proofs.names.Names.add_own.Given as goal
 
 abbrev pub invariant-loop-entry : goal.invariant-loop-entry

@@ -1,7 +1,7 @@
 use Rattle.std.proofs.Common.{◌≡◌, sym, ap, ◌∙◌}
 use Rattle.std.specs.Option.{option_copied}
 use Rattle.links.specs.Arrows.{text_entries, listing}
-use Rattle.links.specs.Tables.{with_entries}
+use Rattle.links.specs.inner.Tables.{with_entries}
 use Rattle.links.specs.Texts.{text_of}
 use Rattle.links.specs.declared.listing.Listing.{Listing}
 use Rattle.links.proofs.Tabled.{listing-made}

@@ -1,5 +1,5 @@
 use Rattle.std.proofs.Common.{sym, ap, ◌∙◌, map, subst}
-use Rattle.live_view.specs.Changes.{redrawn_as, IsRedrawn}
+use Rattle.live_view.specs.inner.Changes.{redrawn_as, IsRedrawn}
 use Rattle.live_view.proofs.LiveLaws.{rows-redrawn}
 use Rattle.live_view.proofs.Redrawn.{IsView-put, held-redrawn, shown-redrawn_at}
 use Rattle.live_view.proofs.UnsettledLaws.{others-redrawn}

@@ -1,6 +1,6 @@
 use Rattle.std.proofs.Common.{ap, ◌∙◌, map}
 use Rattle.elem.specs.ElementValue.{ElementValue}
-use Rattle.live_view.specs.Changes.{redrawn_as}
+use Rattle.live_view.specs.inner.Changes.{redrawn_as}
 use Rattle.live_view.proofs.Redrawn.{HasRedrawn-from}
 use Rattle.live_view.proofs.kept.Kept.redraw_as.Goals as goal
 

@@ -1,7 +1,7 @@
 use Rattle.std.proofs.Common.{◌≡◌, ℕ, Some, sym, ◌∙◌, subst, List}
 use Rattle.std.specs.Prelude.{slice_get}
 use Rattle.elem.specs.ElementValue.{ElementValue}
-use Rattle.live_view.specs.Changes.{outline, IsRedrawn}
+use Rattle.live_view.specs.inner.Changes.{outline, IsRedrawn}
 use Rattle.live_view.proofs.Redrawn.{at_place, same_kind, IsRedrawn-from}
 use Rattle.live_view.proofs.kept.Kept.redrawing.Goals as goal
 use Rattle.live_view.proofs.kept.Kept.redrawing.Goals.{After-index}

@@ -1,7 +1,7 @@
 use Rattle.std.proofs.Common.{◌≡◌, ap, ◌∙◌, sym, subst}
 use Rattle.undoing.specs.Carrying.{taken, taken_all}
 use Rattle.undoing.proofs.CallerLemmas.{taken-has}
-use Rattle.live_view.specs.Changes.{HasRedrawn}
+use Rattle.live_view.specs.inner.Changes.{HasRedrawn}
 use Rattle.view.specs.Shown.{live_elements}
 use Rattle.live_view.proofs.Followed.{not-taken, taken-redrawn, one_item}
 use Rattle.live_view.proofs.live.LiveView.take_one.Goals as goal

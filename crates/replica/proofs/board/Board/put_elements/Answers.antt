@@ -1,7 +1,7 @@
 use Rattle.std.proofs.Common.{OnOk, sym, subst}
 use Rattle.elem.specs.Said.{AreElements}
 use Rattle.history.specs.declared.step.Step.{Step}
-use Rattle.replica.specs.Boards.{GivesElements}
+use Rattle.replica.specs.inner.Boards.{GivesElements}
 use Rattle.replica.proofs.board.Board.put_elements.Goals as goal
 
 pub returns-in-Done-clause-elements : goal.returns-in-Done-clause-elements

@@ -2,7 +2,8 @@
 use Rattle.std.proofs.Common.{◌≡◌, Ok, OnOk, sym, subst}
 use Rattle.view.specs.Shown.{live_elements, shown}
 use Rattle.effects.specs.Changed.{outcome}
-use Rattle.replica.specs.Boards.{BecomeStored, HasStoredGiven, told}
+use Rattle.replica.specs.Boards.{told}
+use Rattle.replica.specs.inner.Boards.{BecomeStored, HasStoredGiven}
 use Rattle.replica.specs.Standing.{Kept}
 use Rattle.replica.proofs.GivenLaws.{command-given}
 use Rattle.replica.proofs.ReplicaLaws.{given-told, given-after}

@@ -2,7 +2,7 @@ use Rattle.std.proofs.Common.{◌+◌, ◌<◌, ◌++◌, List, [], drop, map, a
 use Rattle.json_text.specs.Tree.{object}
 use Rattle.json_text.specs.Compact.{Member, member_text}
 use Rattle.json_text.specs.Members.{pairs}
-use Rattle.scene_json.specs.Passes.{StandHere}
+use Rattle.scene_json.specs.inner.Passes.{StandHere}
 use Rattle.scene_json.specs.Walks.{AreBehind}
 use Rattle.scene_json.proofs.ItemsLeft.{behind-ends, ends-inside, left-next, left-none, left-inside}
 use Rattle.scene_json.proofs.MembersLeft.{all-ended}

@@ -1,7 +1,8 @@
 use Rattle.std.proofs.Common.{◌≡◌, ◌<◌, List, ℕ, [], map, ap, arith}
 use Rattle.json_text.specs.Tree.{object}
 use Rattle.json_text.specs.Compact.{member_text}
-use Rattle.scene_json.specs.Passes.{GoesOn, behind_item}
+use Rattle.scene_json.specs.Passes.{behind_item}
+use Rattle.scene_json.specs.inner.Passes.{GoesOn}
 use Rattle.scene_json.specs.Walks.{Walk, Leaves, AreLeft, AreBehind}
 use Rattle.scene_json.proofs.ItemsLeft.{IsNext, ends-inside, left-next, left-none, left-inside}
 use Rattle.scene_json.proofs.parts.Objects.next.Goals as goal

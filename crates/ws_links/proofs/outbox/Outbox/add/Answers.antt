@@ -2,7 +2,7 @@
 use Rattle.std.proofs.Common.{◌≤◌, ◌∙◌, ◌++◌, sym, ap, subst, length, map, drop}
 use Rattle.std.proofs.lemmas.List.{map_push}
 use Rattle.std.specs.List.{concat}
-use Rattle.ws_links.specs.Leaving.{first_of, frames_left}
+use Rattle.ws_links.specs.inner.Leaving.{first_of, frames_left}
 use Rattle.ws_links.proofs.Left.{left-push, first-push}
 use Rattle.ws_links.proofs.outbox.Outbox.add.Goals as goal
 

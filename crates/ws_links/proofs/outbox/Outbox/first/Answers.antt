@@ -1,6 +1,6 @@
 -- The frame that is first is the first of the list.
 use Rattle.std.proofs.Common.{◌∙◌, sym, ap, cond, drop}
-use Rattle.ws_links.specs.Leaving.{first_of}
+use Rattle.ws_links.specs.inner.Leaving.{first_of}
 use Rattle.ws_links.proofs.Left.{first-made, none-made}
 use Rattle.ws_links.proofs.outbox.Outbox.first.Goals as goal
 

@@ -1,7 +1,7 @@
 -- The bytes that leave are the first of those that are left.
 use Rattle.std.proofs.Common.{◌≡◌, ◌∙◌, ◌+◌, length, drop, map, arith, ap}
 use Rattle.std.specs.List.{concat}
-use Rattle.ws_links.specs.Leaving.{frames_left}
+use Rattle.ws_links.specs.inner.Leaving.{frames_left}
 use Rattle.ws_links.proofs.Left.{left-first, leaves-within}
 use Rattle.ws_links.proofs.outbox.Outbox.leave.Goals as goal
 

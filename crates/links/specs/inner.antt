@@ -1,0 +1,4 @@
+-- What only this crate's own bodies and proofs need.
+pub mod Rows
+pub mod Settled
+pub mod Tables

@@ -1,0 +1,3 @@
+-- What only this crate's own bodies and proofs need.
+pub mod Carried
+pub mod Touched
