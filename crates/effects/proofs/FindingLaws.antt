@@ -3,7 +3,7 @@ use Rattle.std.proofs.Common.{◌≡◌, ℕ, zero, suc, ◌+◌, Bool, true, fa
 use Rattle.std.specs.BTreeSet.{contains}
 use Rattle.std.specs.Cmp.Lexicographic.{nat_list_eq_equiv, slice_cmp}
 use Rattle.std.specs.List.{AllByRecursion, IsDistinct, list_any, position, position_from}
-use Rattle.std.specs.Option.{option_map_or}
+use Rattle.std.specs.Option.{option_map, option_map_or}
 use Rattle.std.proofs.lemmas.Bool.{cases_Bool, false≢true}
 use Rattle.std.proofs.lemmas.Iterator.Adapters.{position_from-zero}
 use Rattle.std.proofs.lemmas.List.Sorted.{Contains-permutation}
@@ -16,6 +16,7 @@ use Rattle.elem.specs.Order.{has_id, HaveDistinctIds}
 use Rattle.elem_store.specs.Places.{IsAt}
 use Rattle.elem_store.specs.Updates.{element_of, ids_of, is_among}
 use Rattle.elem_store.proofs.CallerLemmas.{Contains-filter, find-Some, is_some-find, member}
+use Rattle.index_repair.specs.Keyed.{index_of}
 use Rattle.links.specs.Arrows.{names_target}
 use Rattle.links.specs.Names.{is_target}
 use Rattle.links.proofs.CallerLemmas.{list_any-from, list_any-map}
@@ -145,6 +146,12 @@ module _ (lookup : Lookup) (is : IsLookup lookup) where
   pub seen-as-stored : (e : ElementValue) → Contains stored e → is_live e ≡ true
       → contains (slice_cmp nat_cmp) lookup.unsettled.now e.id ≡ false → element_of seen e.id ≡ Some e
   seen-as-stored e c alive out = is.others e.id out ∙ live-own e c alive
+
+  -- one that can't be rekeyed is shown with its key
+  pub seen-keyed : (e : ElementValue) → Contains stored e → is_live e ≡ true
+      → contains (slice_cmp nat_cmp) lookup.rekeyed.now e.id ≡ false
+      → option_map index_of (element_of seen e.id) ≡ Some e.index
+  seen-keyed e c alive out = is.keyed e.id out ∙ ap (option_map index_of) (live-own e c alive)
 
   some-among : (es : List ElementValue) (id : List ℕ) → is_among (ids_of es) id ≡ is_some (element_of es id)
   some-among es id = list_any-map (λ (e : ElementValue). e.id) (bytes_eq id) es ∙ sym (is_some-find (has_id id) es)

@@ -11,11 +11,13 @@ pub mod PlacingLaws
 pub mod SettingLaws
 pub mod WalkingLaws
 pub mod PreparingLaws
+pub mod RekeyedLaws
 pub mod OutcomeLaws
 pub mod SortedLaws
 pub mod StoredLaws
 pub mod NamedLaws
 pub mod CommandLaws
+pub mod CopiedLaws
 pub mod CopyLaws
 pub mod MemberLaws
 pub mod MissingLaws

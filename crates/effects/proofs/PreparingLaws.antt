@@ -25,7 +25,7 @@ use Rattle.effects.specs.declared.lookup.Lookup.{Lookup}
 use Rattle.effects.specs.declared.refusal.Refusal.TheVariants.{NoElement}
 use Rattle.effects.proofs.ChosenLaws.{filtered-of}
 use Rattle.effects.proofs.CreatedLaws.{unmapped}
-use Rattle.effects.proofs.FindingLaws.{seen-as-stored}
+use Rattle.effects.proofs.FindingLaws.{seen-keyed}
 use Rattle.effects.proofs.NamedLaws.{among-Contains}
 
 pub HasIds-more : (old new : BTreeSet (List ℕ)) (ids : List (List ℕ)) (id copy : List ℕ) → HasIds old ids → copy ≡ id
@@ -58,28 +58,29 @@ with_view_key-at keys shown e has =
 
 -- ---- where keys are settled
 module _ (lookup : Lookup) (is : IsLookup lookup) (keys : BTreeMap (List ℕ) (Option (List ℕ))) where
-  -- the keys of what may be unsettled settle each live element
-  pub settled-view : HasKeys keys (elements_among lookup.unsettled.now lookup.shown.now) → (e : ElementValue)
+  -- the keys of what may be rekeyed settle each live element
+  pub settled-view : HasKeys keys (elements_among lookup.rekeyed.now lookup.shown.now) → (e : ElementValue)
       → Contains lookup.store.now.elements e → is_live e ≡ true → settled_in keys e ≡ with_view_key lookup.shown.now e
   settled-view has e c live =
-      let found = filtered-of (contains (slice_cmp nat_cmp) lookup.unsettled.now) lookup.shown.now e.id in
-      elim (cases_Bool (contains (slice_cmp nat_cmp) lookup.unsettled.now e.id)) [
+      let found = filtered-of (contains (slice_cmp nat_cmp) lookup.rekeyed.now) lookup.shown.now e.id in
+      elim (cases_Bool (contains (slice_cmp nat_cmp) lookup.rekeyed.now e.id)) [
         | inl among ↦ with_view_key-at keys lookup.shown.now e (has e.id
             ∙ ap (option_map index_of) (found
-            ∙ cond-true (contains (slice_cmp nat_cmp) lookup.unsettled.now e.id) (element_of lookup.shown.now e.id) None
+            ∙ cond-true (contains (slice_cmp nat_cmp) lookup.rekeyed.now e.id) (element_of lookup.shown.now e.id) None
             among))
         | inr other ↦
             ap (λ (o : Option (Option (List ℕ))). record e { index = unwrap_or o e.index }) (has e.id
             ∙ ap (option_map index_of) (found
-            ∙ cond-false (contains (slice_cmp nat_cmp) lookup.unsettled.now e.id) (element_of lookup.shown.now e.id)
+            ∙ cond-false (contains (slice_cmp nat_cmp) lookup.rekeyed.now e.id) (element_of lookup.shown.now e.id)
             None other))
-            ∙ sym (ap (λ (o : Option ElementValue). record e { index = option_map_or index_of o e.index })
-            (seen-as-stored lookup is e c live other))
+            ∙ sym (ap (λ (index : Option (List ℕ)). record e { index = index })
+            (sym (or-default index_of (element_of lookup.shown.now e.id) e.index)
+            ∙ ap (λ (o : Option (Option (List ℕ))). unwrap_or o e.index) (seen-keyed lookup is e c live other)))
       ]
 
   -- and none are needed where nothing is copied
   pub settled-for : (originals : List ElementValue)
-      → HasKeys keys (settled_for originals (elements_among lookup.unsettled.now lookup.shown.now))
+      → HasKeys keys (settled_for originals (elements_among lookup.rekeyed.now lookup.shown.now))
       → (e : ElementValue) → Contains lookup.store.now.elements e → is_live e ≡ true
       → settled_in keys e ≡ with_view_key (settled_for originals lookup.shown.now) e
   settled-for [] has e c live = with_view_key-at keys [] e (has e.id)

@@ -68,7 +68,7 @@ fn created(
     match command {
         Command::Create { element, spot } => created_at(alloc, lookup, element, spot, stamp),
         Command::Duplicate { ids, prefix, spot } => {
-            let originals = shown_among(alloc, ids, lookup.shown)?;
+            let originals = shown_among(alloc, lookup, ids)?;
             copies_at(alloc, lookup, &originals, prefix, spot, stamp)
         }
         Command::Paste {

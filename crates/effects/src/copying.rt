@@ -1,12 +1,16 @@
 //! The copies that a command makes.
 
-ghost use Rattle.std.specs.Prelude.{◌≡◌, map, IfOk};
-ghost use Rattle.std.specs.BTreeSet.{contains};
+ghost use Rattle.std.specs.Prelude.{◌≡◌, ℕ, List as Items, [], ◌++◌, map, slice_get, IfOk, IfSome, OnOk};
+ghost use Rattle.std.specs.List.{cons_option};
+ghost use Rattle.std.specs.BTreeSet.{BTreeSet as SetOf, contains};
 ghost use Rattle.std.specs.Cmp.Lexicographic.{slice_cmp};
 ghost use Rattle.std.specs.Ordering.{nat_cmp};
 ghost use Rattle.effects.specs.Copying as copying;
+ghost use Rattle.effects.specs.inner.Copied.{ArePlacesOf};
+ghost use Rattle.effects.specs.inner.Prepared.{elements_among};
 ghost use Rattle.effects.specs.Lookups.{IsLookup};
 
+use crate::finding::{are_few, element_at, found_place};
 use crate::lookup::Lookup;
 use crate::placing::gap_at;
 use crate::preparing::set_of;
@@ -21,15 +25,86 @@ use std::collections::BTreeSet;
 /// The shown elements of these ids, in the order of the scene.
 pub(crate) fn shown_among(
     alloc: Global,
+    lookup: &Lookup<'_>,
     ids: &List<Text>,
-    shown: &[SharedElement],
 ) -> Result<List<Element>, AllocError>
-    ensures { IfOk result (λ list. list ≡ copying.shown_among ids.now shown.now) }
+    requires { IsLookup lookup.now }
+    ensures { IfOk result (λ list. list ≡ copying.shown_among ids.now lookup.now.shown.now) }
 {
     let ids = set_of(alloc, ids)?;
+    if are_few(ids.len(), lookup) {
+        if let Some(places) = places_found(alloc, lookup, &ids)? {
+            return copied_at(alloc, lookup.shown, &places);
+        }
+    }
+    copied_among(alloc, lookup.shown, &ids)
+}
+
+/// The places of the shown elements of these ids, if each is found without a walk.
+fn places_found(
+    alloc: Global,
+    lookup: &Lookup<'_>,
+    ids: &BTreeSet<Text>,
+) -> Result<Option<BTreeSet<usize>>, AllocError>
+    requires { IsLookup lookup.now }
+    ensures { IfOk result (λ found. IfSome found (λ places.
+        ArePlacesOf places ids.now lookup.now.shown.now)) }
+{
+    let mut places = BTreeSet::new(alloc);
+    for id in ids {
+        let Some(i) = found_place(lookup, id) else {
+            return Ok(None);
+        };
+        places.insert(i)?;
+    }
+    Ok(Some(places))
+}
+
+/// The elements at these places, copied.
+fn copied_at(
+    alloc: Global,
+    elements: &[SharedElement],
+    places: &BTreeSet<usize>,
+) -> Result<List<Element>, AllocError>
+    ensures { IfOk result (λ list. (ids : SetOf (Items ℕ)) → ArePlacesOf places.now ids elements.now
+        → list ≡ elements_among ids elements.now) }
+{
+    let mut list = Vec::with_capacity(alloc, places.len())?;
+    for i in places {
+        push_copy(&mut list, elements, *i)?;
+    }
+    Ok(List::from_vec(list))
+}
+
+/// Adds a copy of the element at this place, if there is one.
+fn push_copy(
+    list: &mut Vec<Element>,
+    elements: &[SharedElement],
+    i: usize,
+) -> Result<(), AllocError>
+    ensures { OnOk result (list.new.items
+        ≡ list.old.items ++ cons_option (slice_get elements.now i) []) }
+{
+    match element_at(elements, i) {
+        Some(e) => {
+            list.push(e.try_clone()?)?;
+            Ok(())
+        }
+        None => Ok(()),
+    }
+}
+
+/// Those of the elements that are of these ids, copied.
+fn copied_among(
+    alloc: Global,
+    elements: &[SharedElement],
+    ids: &BTreeSet<Text>,
+) -> Result<List<Element>, AllocError>
+    ensures { IfOk result (λ list. list ≡ elements_among ids.now elements.now) }
+{
     let mut list = Vec::new(alloc);
-    for e in shown {
-        if has_id_among(&ids, e.get()) {
+    for e in elements {
+        if has_id_among(ids, e.get()) {
             list.push(e.get().try_clone()?)?;
         }
     }

@@ -1,6 +1,6 @@
 //! Shown elements by their ids.
 
-ghost use Rattle.std.specs.Prelude.{◌≡◌, None, option_copied, slice_get, IfNone, IfSome, IsTrue};
+ghost use Rattle.std.specs.Prelude.{◌≡◌, None, Some, option_copied, slice_get, IfNone, IfSome, IsTrue};
 ghost use Rattle.std.specs.List.{position};
 ghost use Rattle.elem.specs.Order.{has_id};
 ghost use Rattle.elem_store.specs.Places.{IsAt};
@@ -9,8 +9,18 @@ ghost use Rattle.effects.specs.Lookups.{IsLookup};
 
 use crate::lookup::Lookup;
 use elem::{Element, SharedElement};
+use elem_store::Store;
 use json_text::Text;
 use std::cmp::Ordering;
+
+/// Elements are few if all that is shown is more than so many times as much: then each is looked up,
+/// and else there is one walk over what is shown.
+const FEW: usize = 32;
+
+/// Whether so many elements are few beside all that are shown.
+pub(crate) fn are_few(count: usize, lookup: &Lookup<'_>) -> bool {
+    count < lookup.shown.len() / FEW
+}
 
 /// The shown element of an id, if there is one.
 pub(crate) fn shown_element<'a>(lookup: &Lookup<'a>, id: &Text) -> Option<&'a Element>
@@ -24,7 +34,7 @@ pub(crate) fn shown_element<'a>(lookup: &Lookup<'a>, id: &Text) -> Option<&'a El
 }
 
 /// The element at a place.
-fn element_at(elements: &[SharedElement], i: usize) -> Option<&Element>
+pub(crate) fn element_at(elements: &[SharedElement], i: usize) -> Option<&Element>
     ensures { option_copied result ≡ slice_get elements.now i }
 {
     match elements.get(i) {
@@ -38,9 +48,28 @@ pub(crate) fn shown_place(lookup: &Lookup<'_>, id: &Text) -> Option<usize>
     ensures found { IfSome result (IsAt lookup.now.shown.now id.now) }
     ensures absent { IfNone result (element_of lookup.now.shown.now id.now ≡ None) }
 {
-    match place_by_key(lookup, id) {
+    match found_place(lookup, id) {
         Some(i) => Some(i),
         None => first_place(lookup.shown, id),
+    }
+}
+
+/// The shown element of an id, if it is found without a walk over what is shown.
+pub(crate) fn found_element<'a>(lookup: &Lookup<'a>, id: &Text) -> Option<&'a Element>
+    requires { IsLookup lookup.now }
+    ensures { IfSome result (λ e. element_of lookup.now.shown.now id.now ≡ Some e.now) }
+{
+    let i = found_place(lookup, id)?;
+    element_at(lookup.shown, i)
+}
+
+/// The place of the shown element of an id, if it is found without a walk over what is shown.
+pub(crate) fn found_place(lookup: &Lookup<'_>, id: &Text) -> Option<usize>
+    ensures { IfSome result (IsAt lookup.now.shown.now id.now) }
+{
+    match place_by_key(lookup, id) {
+        Some(i) => Some(i),
+        None => place_by_order(lookup, id),
     }
 }
 
@@ -57,12 +86,34 @@ fn place_by_key(lookup: &Lookup<'_>, id: &Text) -> Option<usize>
     is_at(lookup.shown, i, id).then_some(i)
 }
 
+/// The place of the shown element of an id, if it is found by the order in which what is stored
+/// stands: what is shown stands in that order.
+fn place_by_order(lookup: &Lookup<'_>, id: &Text) -> Option<usize>
+    ensures { IfSome result (IsAt lookup.now.shown.now id.now) }
+{
+    let e = lookup.store.get(id)?;
+    let i = lookup
+        .shown
+        .binary_search_by(|s| stored_order(lookup.store, s.get(), e))
+        .ok()?;
+    is_at(lookup.shown, i, id).then_some(i)
+}
+
+/// How what is stored of a shown element compares with a stored one, by key and then by id.
+fn stored_order(store: &Store, s: &Element, e: &Element) -> Ordering {
+    match store.get(&s.id) {
+        Some(stored) => key_order(stored, e).then(stored.id.cmp(&e.id)),
+        None => Ordering::Less,
+    }
+}
+
 /// How the keys of two elements compare; none is beyond all keys.
 fn key_order(e: &Element, other: &Element) -> Ordering {
     match (&e.index, &other.index) {
         (Some(key), Some(other)) => key.as_bytes().cmp(other.as_bytes()),
-        (None, _) => Ordering::Greater,
-        (_, None) => Ordering::Less,
+        (None, Some(_)) => Ordering::Greater,
+        (Some(_), None) => Ordering::Less,
+        (None, None) => Ordering::Equal,
     }
 }
 

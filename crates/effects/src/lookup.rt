@@ -17,4 +17,6 @@ pub struct Lookup<'a> {
     pub names: &'a LinkTable,
     /// The ids of the live elements that may be shown otherwise than they are stored.
     pub unsettled: &'a BTreeSet<Text>,
+    /// The ids of the live elements that may be shown with another key than is stored.
+    pub rekeyed: &'a BTreeSet<Text>,
 }

@@ -1,6 +1,7 @@
 //! Keys of the scene's order: settled ones, and those at a spot.
 
 ghost use Rattle.std.specs.Prelude.{◌≡◌, ◌+◌, ◌<◌, List as Items, [], ◌∷◌, ◌++◌, ◌↔◌, true, IsTrue, IfOk, IfSome, OnOk, Some, drop, length, option_copied, slice_get};
+ghost use Rattle.std.specs.BTreeMap.{Updates};
 ghost use Rattle.std.specs.Cmp.Lexicographic.{slice_cmp};
 ghost use Rattle.std.specs.Option.{unwrap_or};
 ghost use Rattle.std.specs.Ordering.{nat_cmp};
@@ -14,7 +15,7 @@ ghost use Rattle.effects.specs.Lookups.{IsLookup};
 ghost use Rattle.effects.specs.inner.Prepared.{HasKeys, elements_among, settled_in};
 
 use crate::copying::has_id_among;
-use crate::finding::shown_place;
+use crate::finding::{are_few, found_element, shown_place};
 use crate::lookup::Lookup;
 use board_commands::Spot;
 use elem::{Element, SharedElement};
@@ -33,8 +34,47 @@ pub(crate) struct Gap<'a> {
     pub(crate) high: Option<&'a Key>,
 }
 
+/// The keys with which the elements are shown that may be rekeyed.
+pub(crate) fn rekeyed_keys(alloc: Global, lookup: &Lookup<'_>) -> Result<Keys, AllocError>
+    requires { IsLookup lookup.now }
+    ensures { IfOk result (λ keys. HasKeys keys
+        (elements_among lookup.now.rekeyed.now lookup.now.shown.now)) }
+{
+    if are_few(lookup.rekeyed.len(), lookup) {
+        if let Some(keys) = keys_found(alloc, lookup)? {
+            return Ok(keys);
+        }
+    }
+    keys_among(alloc, lookup.rekeyed, lookup.shown)
+}
+
+/// The same, if each of these elements is found without a walk.
+fn keys_found(alloc: Global, lookup: &Lookup<'_>) -> Result<Option<Keys>, AllocError>
+    requires { IsLookup lookup.now }
+    ensures { IfOk result (λ found. IfSome found (λ keys. HasKeys keys
+        (elements_among lookup.now.rekeyed.now lookup.now.shown.now))) }
+{
+    let mut keys = BTreeMap::new(alloc);
+    for id in lookup.rekeyed {
+        let Some(e) = found_element(lookup, id) else {
+            return Ok(None);
+        };
+        put_key(&mut keys, id, &e.index)?;
+    }
+    Ok(Some(keys))
+}
+
+/// Puts the key of an id.
+fn put_key(keys: &mut Keys, id: &Text, key: &Option<Key>) -> Result<(), AllocError>
+    ensures { OnOk result (Updates (slice_cmp nat_cmp) keys.old keys.new id.now (Some key.now)) }
+{
+    let key = key_copied(key)?;
+    keys.insert(id.try_clone()?, key)?;
+    Ok(())
+}
+
 /// The keys of those of the elements that are of these ids; of one id the first counts.
-pub(crate) fn keys_among(
+fn keys_among(
     alloc: Global,
     ids: &BTreeSet<Text>,
     elements: &[SharedElement],

@@ -23,7 +23,7 @@ use crate::effect::Effect;
 use crate::finding::shown_element;
 use crate::linking::{Label, Link};
 use crate::lookup::Lookup;
-use crate::placing::{Keys, key_at, keys_among};
+use crate::placing::{Keys, key_at, rekeyed_keys};
 use board_base::List;
 use board_commands::{Command, Side, Spot};
 use elem::{Binding, BoundRef, Element, Role};
@@ -66,7 +66,7 @@ pub(crate) fn prepared(
         Command::Group { ids, group } => group_in(alloc, ids, group),
         Command::Ungroup { ids, group } => ungroup(alloc, ids, group),
         Command::Duplicate { ids, .. } => {
-            let originals = shown_among(alloc, ids, lookup.shown)?;
+            let originals = shown_among(alloc, lookup, ids)?;
             settle_for(alloc, lookup, &originals)
         }
         Command::Paste { elements, .. } => settle_for(alloc, lookup, elements),
@@ -85,7 +85,7 @@ fn settle(
         (Prepares lookup.now.store.now.elements lookup.now.shown.now
         (commands.Create element.now spot.now)) }
 {
-    let keys = keys_among(alloc, lookup.unsettled, lookup.shown)?;
+    let keys = rekeyed_keys(alloc, lookup)?;
     Ok(Effect::Settle { keys })
 }
 
@@ -108,20 +108,21 @@ fn settle_for(
     Ok(Effect::Settle { keys })
 }
 
-/// The keys of what may be unsettled, where these are copied; none where nothing is copied.
+/// The keys of what may be rekeyed, where these are copied; none where nothing is copied.
 fn keys_for(
     alloc: Global,
     lookup: &Lookup<'_>,
     originals: &List<Element>,
 ) -> Result<Keys, AllocError>
+    requires { IsLookup lookup.now }
     ensures { IfOk result (λ keys. HasKeys keys
         (copying.settled_for originals.now
-        (elements_among lookup.now.unsettled.now lookup.now.shown.now))) }
+        (elements_among lookup.now.rekeyed.now lookup.now.shown.now))) }
 {
     if originals.as_slice().is_empty() {
         return Ok(BTreeMap::new(alloc));
     }
-    keys_among(alloc, lookup.unsettled, lookup.shown)
+    rekeyed_keys(alloc, lookup)
 }
 
 /// The effect of giving a member a value.
@@ -204,7 +205,7 @@ fn place(alloc: Global, lookup: &Lookup<'_>, id: &Text, spot: &Spot) -> Result<E
         (Prepares lookup.now.store.now.elements lookup.now.shown.now
         (commands.Place id.now spot.now)) }
 {
-    let keys = keys_among(alloc, lookup.unsettled, lookup.shown)?;
+    let keys = rekeyed_keys(alloc, lookup)?;
     let old = shown_key(lookup, id)?;
     let key = key_at(alloc, lookup, spot, Some(id), &old)?;
     let id = id.try_clone()?;

@@ -1,6 +1,5 @@
 -- A kept view after elements took the places of others, and after one was redrawn.
-use Rattle.std.proofs.Common.{◌≡◌, ℕ, Bool, true, false, not, ◌&&◌, ◌||◌, List, [], ◌++◌, All, Option, Some, None, filter_map, map, refl, sym, ap, ◌∙◌, subst}
-use Rattle.std.specs.BTreeSet.{BTreeSet}
+use Rattle.std.proofs.Common.{◌≡◌, true, false, not, ◌&&◌, ◌||◌, List, ◌++◌, All, Option, Some, None, filter_map, map, refl, sym, ap, ◌∙◌}
 use Rattle.std.specs.List.{list_all}
 use Rattle.std.specs.Option.{option_map, option_map_or}
 use Rattle.std.proofs.lemmas.List.Elements.{recursion_from_All}
@@ -15,8 +14,9 @@ use Rattle.view.proofs.CallerLemmas.{HaveDistinctIds-rising}
 use Rattle.live_view.specs.declared.places.Put.{Put}
 use Rattle.live_view.specs.inner.Changes.{redrawn_as}
 use Rattle.live_view.specs.inner.Putting.{puts_of, IsInPlace, all_put}
-use Rattle.view.specs.Kept.{AreOthersAsStored, HaveRowsOf}
-use Rattle.live_view.specs.inner.Unsettled.{put_ids, HasNoted, StillHas}
+use Rattle.view.specs.Kept.{HaveRowsOf}
+use Rattle.live_view.specs.declared.unsettled.Unsettled.{Unsettled}
+use Rattle.live_view.specs.inner.Unsettled.{put_ids, AreNoted, HaveNoted, StillHave}
 use Rattle.live_view.specs.inner.Replacing.{AreRepairs, AreRowsOfAll, HaveReplaced, IsLiveView}
 use Rattle.live_view.proofs.Redrawn.{element-redrawn}
 use Rattle.live_view.proofs.RowLaws.{rows-replaced}
@@ -24,7 +24,7 @@ use Rattle.live_view.proofs.ShownAfter.{has-replaced, view-after}
 use Rattle.live_view.proofs.UnsettledLaws.{others-replaced}
 
 module _ (live drawn news : List ElementValue) (held puts : List Put) (rows : List LinkRow)
-    (unsettled : BTreeSet (List ℕ)) (is : IsLiveView live drawn rows unsettled) (ordered : are_rising (ids_of news)
+    (unsettled : Unsettled) (is : IsLiveView live drawn rows unsettled) (ordered : are_rising (ids_of news)
     ≡ true) (live_news : list_all is_live news ≡ true)
     (are : puts_of held ≡ news) (in_place : All (IsInPlace live) held) (repairs : AreRepairs live drawn news puts) where
   pub replaced : HaveReplaced live news (all_put held live)
@@ -34,19 +34,19 @@ module _ (live drawn news : List ElementValue) (held puts : List Put) (rows : Li
   IsView-after = view-after live drawn news held is.view ordered live_news are (recursion_from_All _ _ in_place) puts
       repairs (recursion_from_All _ _ repairs.placed)
 
-  pub IsLiveView-after : (old_rows new_rows new : List LinkRow) (noted settled : BTreeSet (List ℕ))
+  pub IsLiveView-after : (old_rows new_rows new : List LinkRow) (noted settled : Unsettled)
       → AreRowsOfAll (filter_map (λ (e : ElementValue). element_of live e.id) news) old_rows
       → AreRowsOfAll news new_rows
       → ((row : LinkRow) → has_row new row ≡ (has_row new_rows row || (has_row rows row && not (has_row old_rows row))))
-      → StillHas unsettled noted → HasNoted (put_ids puts ++ ids_of news) noted
-      → (AreOthersAsStored noted (all_put held live) (all_put puts drawn)
-      → AreOthersAsStored settled (all_put held live) (all_put puts drawn))
+      → StillHave unsettled noted → HaveNoted (put_ids puts ++ ids_of news) noted
+      → (AreNoted noted (all_put held live) (all_put puts drawn)
+      → AreNoted settled (all_put held live) (all_put puts drawn))
       → IsLiveView (all_put held live) (all_put puts drawn) new settled
   IsLiveView-after old_rows new_rows new noted settled are_old are_new has kept has_noted settle = record {
     view = IsView-after;
     table = rows-replaced live news (all_put held live) rows old_rows new_rows new (HaveDistinctIds-rising news ordered)
         is.table are_old are_new has replaced;
-    others = settle (others-replaced live drawn unsettled noted is.others kept news (all_put held live) puts repairs
+    noted = settle (others-replaced live drawn unsettled noted is.noted kept news (all_put held live) puts repairs
         replaced has_noted);
   }
 

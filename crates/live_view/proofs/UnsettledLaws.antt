@@ -1,8 +1,9 @@
--- The ids of elements that may be shown otherwise than they are stored, and what a change leaves as it was.
+-- The ids of elements that may be shown otherwise than they are stored, or with another key, and what a change leaves
+-- as it was.
 use Rattle.std.proofs.Common.{◌≡◌, ℕ, zero, suc, ◌+◌, ◌<◌, ◌≤◌, Bool, true, false, cond, ◌||◌, List, [], ◌∷◌, ◌++◌, length, map, take, drop, get_or, set, insert, remove, Option, Some, None, is_some, IsSomeAnd, slice_get, bytes_eq, nat_cmp, refl, sym, ap, ap₂, ◌∙◌, subst, arith, append_assoc}
 use Rattle.std.specs.BTreeMap.{is_at}
 use Rattle.std.specs.BTreeSet.{BTreeSet, contains}
-use Rattle.std.specs.Cmp.Lexicographic.{slice_cmp, texts_ties, nat_list_eq_equiv}
+use Rattle.std.specs.Cmp.Lexicographic.{slice_cmp, nat_list_eq_equiv}
 use Rattle.std.specs.List.{AllByRecursion, IsDistinct, list_any}
 use Rattle.std.specs.List.Sorted.{IsPermutation}
 use Rattle.std.specs.Option.{option_map, option_or}
@@ -17,16 +18,18 @@ use Rattle.elem.specs.ElementValue.{ElementValue}
 use Rattle.elem.specs.Order.{has_id, HaveDistinctIds}
 use Rattle.elem_store.specs.Places.{IsAt}
 use Rattle.elem_store.specs.Updates.{element_of, ids_of, is_among}
-use Rattle.elem_store.proofs.CallerLemmas.{same_id, of_itself, find-Some, is_some-find}
-use Rattle.view.specs.Kept.{AreOthersAsStored}
-use Rattle.view.specs.Shown.{shown, IsView}
+use Rattle.elem_store.proofs.CallerLemmas.{same_id, of_itself, find-Some, is_some-find, is_at-bytes}
+use Rattle.index_repair.specs.Keyed.{index_of}
+use Rattle.view.specs.Shown.{IsView}
 use Rattle.view.proofs.CallerLemmas.{HaveDistinctIds-rising, shown-is}
+use Rattle.json_text.proofs.CallerLemmas.{none-is}
 use Rattle.live_view.specs.declared.places.Put.{Put}
 use Rattle.live_view.specs.inner.Changes.{redrawn_as}
 use Rattle.live_view.specs.inner.Coming.{part_with, rekeyed, HasGone, IsComing, IsGoing}
 use Rattle.live_view.specs.inner.Runs.{stored_keys, AreKeysWith, AreKeysWithout}
-use Rattle.live_view.specs.inner.Unsettled.{put_ids, run_ids, touched_ids, HasNoted, StillHas}
-use Rattle.live_view.specs.inner.Putting.{puts_of, IsInPlace, all_put}
+use Rattle.live_view.specs.declared.unsettled.Unsettled.{Unsettled}
+use Rattle.live_view.specs.inner.Unsettled.{put_ids, run_ids, touched_ids, AreNoted, HasNoted, HaveNoted, IsWalked, StillHas, StillHave}
+use Rattle.live_view.specs.inner.Putting.{IsInPlace, all_put}
 use Rattle.live_view.specs.inner.Replacing.{AreRepairs, HaveReplaced}
 use Rattle.live_view.proofs.IdLaws.{others-of}
 use Rattle.live_view.proofs.OrderedLaws.{map-insert, map-remove}
@@ -43,9 +46,6 @@ neither false c h = (refl, h)
 not-either : (b c : Bool) → cond b true c ≡ false → c ≡ false
 not-either true c h = cc
 not-either false c h = h
-
-of-ordered : (id other : List ℕ) → is_at (slice_cmp nat_cmp id) other ≡ bytes_eq other id
-of-ordered id other = sym (texts_ties id other) ∙ nat_list_eq_equiv.symm id other
 
 pub kept-more : (old new : BTreeSet (List ℕ)) (id : List ℕ)
     → ((q : List ℕ) → contains (slice_cmp nat_cmp) new q
@@ -65,18 +65,75 @@ noted-more ids i id within there old new kept has so_far q f =
     (ap (contains (slice_cmp nat_cmp) new) ((bytes_eq-Decides q id).0 same) ∙ has)) in
     others-of ids i id within there q ∙ ap₂ (λ a b. a || b) off (so_far q (kept q f))
 
-pub others-less : (old new : BTreeSet (List ℕ)) (id : List ℕ) (live drawn : List ElementValue)
+-- each id but these has one value of what is shown and of what is stored
+abbrev pub AreOthersAlike : {X : Type 0} → (Option ElementValue → X) → BTreeSet (List ℕ) → List ElementValue
+    → List ElementValue → Type 0
+AreOthersAlike value set live drawn =
+    (id : List ℕ) → contains (slice_cmp nat_cmp) set id ≡ false
+    → value (element_of drawn id) ≡ value (element_of live id)
+
+-- an element itself, and its key
+abbrev pub itself : Option ElementValue → Option ElementValue
+itself o = o
+
+abbrev pub key_of : Option ElementValue → Option (Option (List ℕ))
+key_of o = option_map index_of o
+
+pub others-less : {X : Type 0} (value : Option ElementValue → X) (old new : BTreeSet (List ℕ)) (id : List ℕ)
+    → (live drawn : List ElementValue)
     → ((q : List ℕ) → contains (slice_cmp nat_cmp) new q
     ≡ cond (is_at (slice_cmp nat_cmp id) q) false (contains (slice_cmp nat_cmp) old q))
-    → element_of drawn id ≡ element_of live id → AreOthersAsStored old live drawn → AreOthersAsStored new live drawn
-others-less old new id live drawn updates is others q f = by (bytes_eq q id) refl where
-  by : (b : Bool) → bytes_eq q id ≡ b → element_of drawn q ≡ element_of live q
+    → value (element_of drawn id) ≡ value (element_of live id) → AreOthersAlike value old live drawn
+    → AreOthersAlike value new live drawn
+others-less {X} value old new id live drawn updates is others q f = by (bytes_eq q id) refl where
+  by : (b : Bool) → bytes_eq q id ≡ b → value (element_of drawn q) ≡ value (element_of live q)
   by true same =
       let to : q ≡ id = (bytes_eq-Decides q id).0 same in
-      ap (element_of drawn) to ∙ (is ∙ sym (ap (element_of live) to))
+      ap (λ n. value (element_of drawn n)) to ∙ (is ∙ sym (ap (λ n. value (element_of live n)) to))
   by false off =
-      others q (sym (updates q ∙ ap (λ b. cond b false (contains (slice_cmp nat_cmp) old q)) (of-ordered id q ∙ off))
+      others q (sym (updates q ∙ ap (λ b. cond b false (contains (slice_cmp nat_cmp) old q)) (is_at-bytes id q ∙ off))
       ∙ f)
+
+-- the id that is taken out is this one
+pub less-of : (old new : BTreeSet (List ℕ)) (id own : List ℕ) → id ≡ own
+    → ((q : List ℕ) → contains (slice_cmp nat_cmp) new q
+    ≡ cond (is_at (slice_cmp nat_cmp id) q) false (contains (slice_cmp nat_cmp) old q)) → (q : List ℕ)
+    → contains (slice_cmp nat_cmp) new q
+    ≡ cond (is_at (slice_cmp nat_cmp own) q) false (contains (slice_cmp nat_cmp) old q)
+less-of old new id own same updates q =
+    updates q ∙ ap (λ n. cond (is_at (slice_cmp nat_cmp n) q) false (contains (slice_cmp nat_cmp) old q)) same
+
+-- one set has an id less
+pub rekeyed-less : (old new : Unsettled) (e s : ElementValue) (live drawn : List ElementValue) → new.ids ≡ old.ids
+    → ((q : List ℕ) → contains (slice_cmp nat_cmp) new.rekeyed q
+    ≡ cond (is_at (slice_cmp nat_cmp e.id) q) false (contains (slice_cmp nat_cmp) old.rekeyed q))
+    → element_of live e.id ≡ Some e → element_of drawn e.id ≡ Some s → s.index ≡ e.index
+    → AreNoted old live drawn → AreNoted new live drawn
+rekeyed-less old new e s live drawn same updates stored seen index noted = record {
+  others = λ id f. noted.others id (ap (λ set. contains (slice_cmp nat_cmp) set id) (sym same) ∙ f);
+  keyed = others-less key_of old.rekeyed new.rekeyed e.id live drawn updates
+      (ap key_of seen ∙ ap Some index ∙ sym (ap key_of stored)) noted.keyed;
+}
+
+pub ids-less : (old new : Unsettled) (id : List ℕ) (live drawn : List ElementValue) → new.rekeyed ≡ old.rekeyed
+    → ((q : List ℕ) → contains (slice_cmp nat_cmp) new.ids q
+    ≡ cond (is_at (slice_cmp nat_cmp id) q) false (contains (slice_cmp nat_cmp) old.ids q))
+    → element_of drawn id ≡ element_of live id → AreNoted old live drawn → AreNoted new live drawn
+ids-less old new id live drawn same updates is noted = record {
+  others = others-less itself old.ids new.ids id live drawn updates is noted.others;
+  keyed = λ q f. noted.keyed q (ap (λ set. contains (slice_cmp nat_cmp) set q) (sym same) ∙ f);
+}
+
+pub both-less : (old new : Unsettled) (id : List ℕ) (live drawn : List ElementValue)
+    → ((q : List ℕ) → contains (slice_cmp nat_cmp) new.ids q
+    ≡ cond (is_at (slice_cmp nat_cmp id) q) false (contains (slice_cmp nat_cmp) old.ids q))
+    → ((q : List ℕ) → contains (slice_cmp nat_cmp) new.rekeyed q
+    ≡ cond (is_at (slice_cmp nat_cmp id) q) false (contains (slice_cmp nat_cmp) old.rekeyed q))
+    → element_of drawn id ≡ element_of live id → AreNoted old live drawn → AreNoted new live drawn
+both-less old new id live drawn updates rekeyed is noted = record {
+  others = others-less itself old.ids new.ids id live drawn updates is noted.others;
+  keyed = others-less key_of old.rekeyed new.rekeyed id live drawn rekeyed (ap key_of is) noted.keyed;
+}
 
 -- ---- a list of ids, one more each time
 pub push-part : {X : Type 0} (f : X → List ℕ) (base ids : List (List ℕ)) (xs : List X) (i : ℕ) (x : X) → i < length xs
@@ -98,14 +155,22 @@ element-push (x ∷ es) e id =
       | false ↦ element-push es e id
     ]
 
-none-from : (o : Option ElementValue) → is_some o ≡ false → o ≡ None
-none-from None is = refl
-none-from (Some e) is = cc
+-- what is found of an id is found of its own
+pub own-found : (es : List ElementValue) (id : List ℕ) (e : ElementValue) → Some e ≡ element_of es id
+    → element_of es e.id ≡ Some e
+own-found es id e found =
+    ap (element_of es) (sym (same_id id e (find-Some (has_id id) es e (sym found)).1)) ∙ sym found
 
--- of the first shown elements, each of another id than these is stored as it is shown
-abbrev pub AreWalked : List ElementValue → BTreeSet (List ℕ) → List ElementValue → Type 0
-AreWalked live set firsts = (id : List ℕ) → contains (slice_cmp nat_cmp) set id ≡ false → (e : ElementValue)
-    → element_of firsts id ≡ Some e → element_of live id ≡ Some e
+-- of the first shown elements, each of another id than these is stored as it is shown, or has the stored key
+abbrev pub AreWalkedAs : {X : Type 0} → (Option ElementValue → X) → List ElementValue → BTreeSet (List ℕ)
+    → List ElementValue → Type 0
+AreWalkedAs value live set firsts =
+    (id : List ℕ) → contains (slice_cmp nat_cmp) set id ≡ false → (e : ElementValue)
+    → element_of firsts id ≡ Some e → value (element_of live id) ≡ value (Some e)
+
+pub record AreWalked (live : List ElementValue) (unsettled : Unsettled) (firsts : List ElementValue) : Type 0 where
+  pub whole : AreWalkedAs itself live unsettled.ids firsts
+  pub keyed : AreWalkedAs key_of live unsettled.rekeyed firsts
 
 module _ (live drawn : List ElementValue) (view : IsView live drawn) where
   any-ids : (id : List ℕ) (es : List ElementValue) → list_any (has_id id) es ≡ is_among (ids_of es) id
@@ -121,13 +186,7 @@ module _ (live drawn : List ElementValue) (view : IsView live drawn) where
       ∙ list_any-IsPermutation (bytes_eq id) (ids_of live) (ids_of drawn) moved)
 
   pub none-shown : (id : List ℕ) → None ≡ element_of live id → element_of drawn id ≡ element_of live id
-  none-shown id none = none-from (element_of drawn id) (some-both id ∙ ap is_some (sym none)) ∙ none
-
-  pub one-shown : (id : List ℕ) (e : ElementValue) → Some e ≡ element_of live id → element_of drawn e.id ≡ Some e
-      → element_of drawn id ≡ element_of live id
-  one-shown id e found is =
-      let to : id ≡ e.id = same_id id e (find-Some (has_id id) live e (sym found)).1 in
-      ap (element_of drawn) to ∙ (is ∙ found)
+  none-shown id none = none-is (element_of drawn id) (some-both id ∙ ap is_some (sym none)) ∙ none
 
   element-distinct : (es : List ElementValue) (i : ℕ) (e : ElementValue) → HaveDistinctIds es → slice_get es i ≡ Some e
       → element_of es e.id ≡ Some e
@@ -146,39 +205,59 @@ module _ (live drawn : List ElementValue) (view : IsView live drawn) where
       later (f ∷ fs) zero h all = ap (λ (y : ElementValue). bytes_eq x.id y.id) (sym (same_Some f e h)) ∙ all.0
       later (f ∷ fs) (suc k) h all = later fs k h all.1
 
-  pub shown-at : (e s : ElementValue) (at' : ℕ) → IsAt drawn e.id at' → s ≡ get_or drawn at' s → s ≡ e
-      → element_of drawn e.id ≡ Some e
-  shown-at e s at' is got same =
+  pub shown-at : (e s : ElementValue) (at' : ℕ) → IsAt drawn e.id at' → s ≡ get_or drawn at' s
+      → element_of drawn e.id ≡ Some s
+  shown-at e s at' is got =
       let there = at_place (λ (x : ElementValue). x.id ≡ e.id) drawn at' s is got in
-      element-distinct drawn at' e (subst HaveDistinctIds (sym view.exact)
-      (shown-distinct live (HaveDistinctIds-rising live view.ordered) view.keys)) (there.0 ∙ ap Some same)
+      ap (element_of drawn) (sym there.1) ∙ element-distinct drawn at' s (subst HaveDistinctIds (sym view.exact)
+      (shown-distinct live (HaveDistinctIds-rising live view.ordered) view.keys)) there.0
 
-  pub walked-more : (i : ℕ) (e : ElementValue) → i < length drawn → e ≡ get_or drawn i e → (old new : BTreeSet (List ℕ))
-      → StillHas old new
-      → (contains (slice_cmp nat_cmp) new e.id ≡ false → element_of live e.id ≡ Some e)
-      → AreWalked live old (take i drawn) → AreWalked live new (take (i + 1) drawn)
-  walked-more i e within there old new kept own so_far id f x is = by (element_of (take i drawn) id) refl where
-    all : option_or (element_of (take i drawn) id) (cond (has_id id e) (Some e) None) ≡ Some x
-    all = sym (ap (λ es. element_of es id) (take_more drawn i e within ∙ ap (λ y. take i drawn ++ y ∷ []) (sym there))
-        ∙ element-push (take i drawn) e id) ∙ is
+  walked-as-more : {X : Type 0} (value : Option ElementValue → X) (i : ℕ) (e : ElementValue) → i < length drawn
+      → e ≡ get_or drawn i e → (old new : BTreeSet (List ℕ)) → StillHas old new
+      → (contains (slice_cmp nat_cmp) new e.id ≡ false → value (element_of live e.id) ≡ value (Some e))
+      → AreWalkedAs value live old (take i drawn) → AreWalkedAs value live new (take (i + 1) drawn)
+  walked-as-more {X} value i e within there old new kept own so_far id f x is =
+      by (element_of (take i drawn) id) refl
+    where
+      all : option_or (element_of (take i drawn) id) (cond (has_id id e) (Some e) None) ≡ Some x
+      all = sym (ap (λ es. element_of es id) (take_more drawn i e within
+          ∙ ap (λ y. take i drawn ++ y ∷ []) (sym there)) ∙ element-push (take i drawn) e id) ∙ is
 
-    last : (b : Bool) → has_id id e ≡ b → cond b (Some e) None ≡ Some x → element_of live id ≡ Some x
-    last true named h =
-        let to : id ≡ e.id = same_id id e named in
-        ap (element_of live) to ∙ (own (ap (contains (slice_cmp nat_cmp) new) (sym to) ∙ f) ∙ h)
-    last false named h = cc
+      last : (b : Bool) → has_id id e ≡ b → cond b (Some e) None ≡ Some x
+          → value (element_of live id) ≡ value (Some x)
+      last true named h =
+          let to : id ≡ e.id = same_id id e named in
+          ap (λ n. value (element_of live n)) to
+          ∙ (own (ap (contains (slice_cmp nat_cmp) new) (sym to) ∙ f) ∙ ap value h)
+      last false named h = cc
 
-    by : (o : Option ElementValue) → element_of (take i drawn) id ≡ o → element_of live id ≡ Some x
-    by (Some y) old_is =
-        so_far id (kept id f) x (old_is ∙ (sym (ap (λ o. option_or o (cond (has_id id e) (Some e) None)) old_is) ∙ all))
-    by None old_is =
-        last (has_id id e) refl (sym (ap (λ o. option_or o (cond (has_id id e) (Some e) None)) old_is) ∙ all)
+      by : (o : Option ElementValue) → element_of (take i drawn) id ≡ o → value (element_of live id) ≡ value (Some x)
+      by (Some y) old_is =
+          so_far id (kept id f) x (old_is ∙ (sym (ap (λ o. option_or o (cond (has_id id e) (Some e) None)) old_is)
+          ∙ all))
+      by None old_is =
+          last (has_id id e) refl (sym (ap (λ o. option_or o (cond (has_id id e) (Some e) None)) old_is) ∙ all)
 
-  pub all-walked : (set : BTreeSet (List ℕ)) → AreWalked live set drawn → AreOthersAsStored set live drawn
-  all-walked set walked id f = by (element_of drawn id) refl where
-    by : (o : Option ElementValue) → element_of drawn id ≡ o → element_of drawn id ≡ element_of live id
-    by None is = is ∙ sym (none-from (element_of live id) (sym (some-both id) ∙ ap is_some is))
-    by (Some e) is = is ∙ sym (walked id f e is)
+  pub walked-more : (i : ℕ) (e : ElementValue) → i < length drawn → e ≡ get_or drawn i e → (old new : Unsettled)
+      → StillHave old new → IsWalked live new e → AreWalked live old (take i drawn)
+      → AreWalked live new (take (i + 1) drawn)
+  walked-more i e within there old new kept own so_far = record {
+    whole = walked-as-more itself i e within there old.ids new.ids kept.ids own.whole so_far.whole;
+    keyed = walked-as-more key_of i e within there old.rekeyed new.rekeyed kept.rekeyed own.keyed so_far.keyed;
+  }
+
+  all-walked-as : {X : Type 0} (value : Option ElementValue → X) (set : BTreeSet (List ℕ))
+      → AreWalkedAs value live set drawn → AreOthersAlike value set live drawn
+  all-walked-as {X} value set walked id f = by (element_of drawn id) refl where
+    by : (o : Option ElementValue) → element_of drawn id ≡ o → value (element_of drawn id) ≡ value (element_of live id)
+    by None is = ap value (is ∙ sym (none-is (element_of live id) (sym (some-both id) ∙ ap is_some is)))
+    by (Some e) is = ap value is ∙ sym (walked id f e is)
+
+  pub all-walked : (unsettled : Unsettled) → AreWalked live unsettled drawn → AreNoted unsettled live drawn
+  all-walked unsettled walked = record {
+    others = all-walked-as itself unsettled.ids walked.whole;
+    keyed = all-walked-as key_of unsettled.rekeyed walked.keyed;
+  }
 
 -- ---- elements of other ids than those that are put, come, go or get another key
 put-other : (es : List ElementValue) (i : ℕ) (e : ElementValue) (id : List ℕ)
@@ -308,22 +387,30 @@ none-among id (e ∷ es) out =
     let off = neither (bytes_eq id e.id) (is_among (ids_of es) id) out in
     cond-false (has_id id e) (Some e) (element_of es id) off.0 ∙ none-among id es off.1
 
-module _ (live drawn : List ElementValue) (old noted : BTreeSet (List ℕ)) (others : AreOthersAsStored old live drawn)
-    (kept : StillHas old noted) where
-  pub others-kept : AreOthersAsStored noted live drawn
-  others-kept id f = others id (kept id f)
+module _ (live drawn : List ElementValue) (old noted : Unsettled) (others : AreNoted old live drawn)
+    (kept : StillHave old noted) where
+  pub others-kept : AreNoted noted live drawn
+  others-kept = record {
+    others = λ id f. others.others id (kept.ids id f);
+    keyed = λ id f. others.keyed id (kept.rekeyed id f);
+  }
 
   -- elements of no other ids than these are stored or shown otherwise
-  others-after : (ids : List (List ℕ)) (live_after drawn_after : List ElementValue) → HasNoted ids noted
+  others-after : (ids : List (List ℕ)) (live_after drawn_after : List ElementValue) → HaveNoted ids noted
       → ((id : List ℕ) → is_among ids id ≡ false → (element_of live_after id ≡ element_of live id)
-      × (element_of drawn_after id ≡ element_of drawn id)) → AreOthersAsStored noted live_after drawn_after
-  others-after ids live_after drawn_after has same id f =
-      let is = same id (has id f) in
-      is.1 ∙ (others id (kept id f) ∙ sym is.0)
+      × (element_of drawn_after id ≡ element_of drawn id)) → AreNoted noted live_after drawn_after
+  others-after ids live_after drawn_after has same = record {
+    others = λ id f.
+        let is = same id (has.ids id f) in
+        is.1 ∙ (others.others id (kept.ids id f) ∙ sym is.0);
+    keyed = λ id f.
+        let is = same id (has.rekeyed id f) in
+        ap key_of is.1 ∙ (others.keyed id (kept.rekeyed id f) ∙ sym (ap key_of is.0));
+  }
 
   pub others-replaced : (news live_after : List ElementValue) (puts : List Put) → AreRepairs live drawn news puts
-      → HaveReplaced live news live_after → HasNoted (put_ids puts ++ ids_of news) noted
-      → AreOthersAsStored noted live_after (all_put puts drawn)
+      → HaveReplaced live news live_after → HaveNoted (put_ids puts ++ ids_of news) noted
+      → AreNoted noted live_after (all_put puts drawn)
   others-replaced news live_after puts repairs replaced has =
       others-after (put_ids puts ++ ids_of news) live_after (all_put puts drawn) has
       (λ id out.
@@ -354,8 +441,8 @@ module _ (live drawn : List ElementValue) (old noted : BTreeSet (List ℕ)) (oth
   pub others-with : (e own : ElementValue) (place start : ℕ) (puts : List Put) (keys : List (List ℕ))
       (live_after : List ElementValue) → IsComing live drawn e own puts
       → AreKeysWith (stored_keys live drawn) e.index place start keys → HaveReplaced live (e ∷ []) live_after
-      → HasNoted (touched_ids drawn puts e.id start keys) noted
-      → AreOthersAsStored noted live_after (rekeyed start keys (insert (all_put puts drawn) place own))
+      → HaveNoted (touched_ids drawn puts e.id start keys) noted
+      → AreNoted noted live_after (rekeyed start keys (insert (all_put puts drawn) place own))
   others-with e own place start puts keys live_after coming keys_with replaced has =
       others-after (touched_ids drawn puts e.id start keys) live_after
       (rekeyed start keys (insert (all_put puts drawn) place own)) has
@@ -382,8 +469,8 @@ module _ (live drawn : List ElementValue) (old noted : BTreeSet (List ℕ)) (oth
   pub others-without : (e : ElementValue) (place start : ℕ) (puts : List Put) (keys : List (List ℕ))
       (live_after : List ElementValue) → IsAt drawn e.id place → IsGoing live drawn e puts
       → AreKeysWithout (stored_keys live drawn) place start keys → HasGone live e.id live_after
-      → HasNoted (touched_ids drawn puts e.id start keys) noted
-      → AreOthersAsStored noted live_after (rekeyed start keys (remove (all_put puts drawn) place))
+      → HaveNoted (touched_ids drawn puts e.id start keys) noted
+      → AreNoted noted live_after (rekeyed start keys (remove (all_put puts drawn) place))
   others-without e place start puts keys live_after at' going keys_without gone has =
       others-after (touched_ids drawn puts e.id start keys) live_after
       (rekeyed start keys (remove (all_put puts drawn) place)) has
@@ -404,8 +491,19 @@ module _ (live drawn : List ElementValue) (old noted : BTreeSet (List ℕ)) (oth
       in_places : AllByRecursion (IsInPlace drawn) puts
       in_places = recursion_from_All _ _ going.beside.placed
 
--- where an element is redrawn, it is stored and shown otherwise in one way
-pub others-redrawn : (new : ElementValue) (live drawn : List ElementValue) (set : BTreeSet (List ℕ))
-    → AreOthersAsStored set live drawn → AreOthersAsStored set (map (redrawn_as new) live) (map (redrawn_as new) drawn)
-others-redrawn new live drawn set others id f =
-    element-redrawn new id drawn ∙ (ap (option_map (redrawn_as new)) (others id f) ∙ sym (element-redrawn new id live))
+-- where an element is redrawn, it is stored and shown otherwise in one way, and its key stays
+pub others-redrawn : (new : ElementValue) (live drawn : List ElementValue) (unsettled : Unsettled)
+    → AreNoted unsettled live drawn → AreNoted unsettled (map (redrawn_as new) live) (map (redrawn_as new) drawn)
+others-redrawn new live drawn unsettled others = record {
+  others = λ id f. element-redrawn new id drawn
+      ∙ (ap (option_map (redrawn_as new)) (others.others id f) ∙ sym (element-redrawn new id live));
+  keyed = λ id f. key-redrawn id drawn ∙ (others.keyed id f ∙ sym (key-redrawn id live));
+}
+  where
+    same-key : (o : Option ElementValue) → key_of (option_map (redrawn_as new) o) ≡ key_of o
+    same-key None = refl
+    same-key (Some e) = refl
+
+    key-redrawn : (id : List ℕ) (es : List ElementValue) → key_of (element_of (map (redrawn_as new) es) id)
+        ≡ key_of (element_of es id)
+    key-redrawn id es = ap key_of (element-redrawn new id es) ∙ same-key (element_of es id)

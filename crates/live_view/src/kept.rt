@@ -3,7 +3,7 @@
 ghost use Rattle.std.specs.Prelude.{◌≡◌, List as Items, [], IfOk, map, IsPermutation};
 ghost use Rattle.elem.specs.ElementValue.{ElementValue};
 ghost use Rattle.elem_store.specs.Updates.{ids_of};
-ghost use Rattle.view.specs.Kept.{AreOthersAsStored, HaveRowsOf};
+ghost use Rattle.view.specs.Kept.{AreOthersAsStored, AreOthersKeyedAsStored, HaveRowsOf};
 ghost use Rattle.view.specs.Settled.{AreSettled};
 ghost use Rattle.index_repair.specs.Keyed.{HaveRisingKeys};
 ghost use Rattle.view.specs.Shown.{live_elements, shown, bare, IsSceneOrder};
@@ -11,7 +11,7 @@ ghost use Rattle.live_view.specs.inner.Replacing.{IsLiveView};
 
 use crate::drawing::table_of;
 use crate::sharing::shared_again;
-use crate::unsettled::unsettled_of;
+use crate::unsettled::{Unsettled, unsettled_of};
 use elem::SharedElement;
 use json_text::Text;
 use links::LinkTable;
@@ -31,8 +31,8 @@ pub(crate) struct Kept {
     /// Who of them names whom.
     pub(crate) table: LinkTable,
 
-    /// The ids of those that may be shown otherwise than they are stored.
-    pub(crate) unsettled: BTreeSet<Text>,
+    /// The ids of those that may be shown otherwise than they are stored, or with another key.
+    pub(crate) unsettled: Unsettled,
 }
 
 /// The parts of what is kept, while it changes.
@@ -41,7 +41,7 @@ pub(crate) struct Parts {
     pub(crate) live: Vec<SharedElement>,
     pub(crate) shown: Vec<SharedElement>,
     pub(crate) table: LinkTable,
-    pub(crate) unsettled: BTreeSet<Text>,
+    pub(crate) unsettled: Unsettled,
 }
 
 // By hand, so that whoever drops what is kept sees one call and not its parts.
@@ -77,7 +77,7 @@ impl Kept {
             live: Vec::new(alloc),
             shown: Vec::new(alloc),
             table: LinkTable::new(alloc),
-            unsettled: BTreeSet::new(alloc),
+            unsettled: Unsettled::new(alloc),
         }
     }
 
@@ -127,7 +127,14 @@ impl Kept {
     pub(crate) fn unsettled(&self) -> &BTreeSet<Text>
         ensures { AreOthersAsStored result.now self.now (shown self.now) }
     {
-        &self.unsettled
+        &self.unsettled.ids
+    }
+
+    /// The ids of the live elements that may be shown with another key than is stored.
+    pub(crate) fn rekeyed(&self) -> &BTreeSet<Text>
+        ensures { AreOthersKeyedAsStored result.now self.now (shown self.now) }
+    {
+        &self.unsettled.rekeyed
     }
 
     /// The same, copied.
@@ -149,7 +156,7 @@ pub(crate) fn joined(
     live: Vec<SharedElement>,
     shown: Vec<SharedElement>,
     table: LinkTable,
-    unsettled: BTreeSet<Text>,
+    unsettled: Unsettled,
 ) -> Kept
     requires { IsLiveView live.items shown.items table.rows unsettled }
     ensures { result ≡ live.items }

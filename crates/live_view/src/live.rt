@@ -4,7 +4,7 @@ ghost use Rattle.std.specs.Prelude.{◌≡◌, List as Items, [], Ok, true, fals
 ghost use Rattle.frac_keys.specs.Rising.{are_rising};
 ghost use Rattle.elem.specs.ElementValue.{ElementValue};
 ghost use Rattle.elem_store.specs.Updates.{ids_of};
-ghost use Rattle.view.specs.Kept.{AreOthersAsStored, HaveRowsOf};
+ghost use Rattle.view.specs.Kept.{AreOthersAsStored, AreOthersKeyedAsStored, HaveRowsOf};
 ghost use Rattle.view.specs.Settled.{AreSettled};
 ghost use Rattle.index_repair.specs.Keyed.{HaveRisingKeys};
 ghost use Rattle.view.specs.Shown.{live_elements, shown, bare, IsSceneOrder};
@@ -97,6 +97,14 @@ impl LiveView {
         ensures { AreOthersAsStored result.now self.now (shown self.now) }
     {
         self.kept.unsettled()
+    }
+
+    /// The ids of the live elements that may be shown with another key than is stored: all others
+    /// are shown with that. It takes no memory.
+    pub fn rekeyed(&self) -> &BTreeSet<Text>
+        ensures { AreOthersKeyedAsStored result.now self.now (shown self.now) }
+    {
+        self.kept.rekeyed()
     }
 
     /// Lets an element take the place of that of its id, if they have one outline, and tells

@@ -88,7 +88,7 @@ fn held_puts(
 }
 
 /// Whether two elements have the same index.
-fn have_one_index(e: &Element, other: &Element) -> bool
+pub(crate) fn have_one_index(e: &Element, other: &Element) -> bool
     ensures { IsTrue result → e.now.index ≡ other.now.index }
 {
     e.index == other.index

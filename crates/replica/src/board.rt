@@ -92,6 +92,7 @@ impl Board {
             shown: self.view.elements(),
             names: self.view.names(),
             unsettled: self.view.unsettled(),
+            rekeyed: self.view.rekeyed(),
         };
         changed(alloc, &lookup, command, stamp)
     }

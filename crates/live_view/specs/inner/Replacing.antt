@@ -1,6 +1,5 @@
 -- Elements that take the places of those of their ids. This project's own.
 use Rattle.std.specs.Prelude.{◌≡◌, ℕ, List, Bool, true, ◌&&◌, Option, All, bytes_eq, filter, filter_map, map}
-use Rattle.std.specs.BTreeSet.{BTreeSet}
 use Rattle.std.specs.List.{list_any}
 use Rattle.std.specs.Option.{option_or}
 use Rattle.frac_keys.specs.Rising.{are_rising}
@@ -14,7 +13,9 @@ use Rattle.view.specs.Shown.{in_scene_order, without_index, IsView}
 use Rattle.live_view.specs.declared.places.Put.{Put}
 use Rattle.live_view.specs.inner.Putting.{puts_of, IsInPlace}
 use Rattle.live_view.specs.inner.Reached.{AreStartedBy, AreSurrounded, HaveReached, StaysKind}
-use Rattle.view.specs.Kept.{AreOthersAsStored, HaveRowsOf}
+use Rattle.live_view.specs.inner.Unsettled.{AreNoted}
+use Rattle.live_view.specs.declared.unsettled.Unsettled.{Unsettled}
+use Rattle.view.specs.Kept.{HaveRowsOf}
 
 -- the element of an id after new ones took the places of those of their ids
 abbrev pub element_after : List ElementValue → List ElementValue → List ℕ → Option ElementValue
@@ -52,9 +53,9 @@ pub record AreRepairs (live shown news : List ElementValue) (puts : List Put) : 
       (settled (in_scene_order (filter_map (element_after live news) wide))))
 
 -- A view, its elements in the order of their ids, what is shown of them, the rows of who names
--- whom, and the ids of those that may be shown otherwise than they are stored.
+-- whom, and the ids of those that may be shown otherwise than they are stored, or with another key.
 pub record IsLiveView (live shown : List ElementValue) (rows : List LinkRow)
-    (unsettled : BTreeSet (List ℕ)) : Type 0 where
+    (unsettled : Unsettled) : Type 0 where
   pub view : IsView live shown
   pub table : HaveRowsOf live rows
-  pub others : AreOthersAsStored unsettled live shown
+  pub noted : AreNoted unsettled live shown

@@ -46,5 +46,5 @@ invariant_of-result c =
     record {
       view = view (goal.at.invariant_of-result c).After-table_of;
       table = c.in_ok-table.ensures;
-      others = c.in_ok-unsettled.ensures;
+      noted = c.in_ok-unsettled.ensures;
     }

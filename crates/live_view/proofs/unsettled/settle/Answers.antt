@@ -1,7 +1,10 @@
-use Rattle.live_view.proofs.UnsettledLaws.{others-less}
+use Rattle.live_view.proofs.UnsettledLaws.{none-shown, own-found}
 use Rattle.live_view.proofs.unsettled.settle.Goals as goal
 
-pub returns-then-is_as_stored : goal.returns-then-is_as_stored
-returns-then-is_as_stored c others =
-    others-less c.args.unsettled.now c.remove.new.self c.args.id.now c.args.live.now.items c.args.shown.now.items
-    c.remove.ensures.updates.0 (c.is_as_stored.ensures c.if-is_as_stored.true) others
+pub settle_stored-requires-clause-stored : goal.settle_stored-requires-clause-stored
+settle_stored-requires-clause-stored c =
+    own-found c.args.live.now.items c.args.id.now c.in-Some.e.now c.in-Some.ensures
+
+pub returns-in-None : goal.returns-in-None
+returns-in-None c noted = c.forget.ensures c.args.live.now.items c.args.shown.now.items
+    (none-shown c.args.live.now.items c.args.shown.now.items c.requires c.args.id.now c.in-None.ensures) noted

@@ -1,10 +1,10 @@
-use Rattle.std.proofs.Common.{◌≡◌, ◌<◌, ℕ, List, get_or, length, take_all, ap, ◌∙◌, subst, arith}
+use Rattle.std.proofs.Common.{◌≡◌, ◌<◌, List, get_or, length, take_all, ap, ◌∙◌, subst, arith}
 use Rattle.elem.specs.ElementValue.{ElementValue}
 use Rattle.live_view.proofs.UnsettledLaws.{AreWalked, all-walked, walked-more}
 use Rattle.live_view.proofs.unsettled.unsettled_of.Goals as goal
 
 pub loop-e-init : goal.loop-e-init
-loop-e-init c id f e is = cc
+loop-e-init c = record { whole = λ id f e is. cc; keyed = λ id f e is. cc }
 
 pub loop-e-preserved : goal.loop-e-preserved
 loop-e-preserved c =

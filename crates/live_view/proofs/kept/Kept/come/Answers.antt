@@ -7,9 +7,9 @@ use Rattle.links.specs.Rows.{has_row, rows_of}
 use Rattle.view.specs.Shown.{as_stored, IsView}
 use Rattle.live_view.specs.inner.Coming.{all_stored, rekeyed, IsComing, IsPlaceFor}
 use Rattle.live_view.specs.inner.Putting.{all_put}
-use Rattle.view.specs.Kept.{AreOthersAsStored, HaveRowsOf}
+use Rattle.view.specs.Kept.{HaveRowsOf}
 use Rattle.live_view.specs.inner.Replacing.{HaveReplaced}
-use Rattle.live_view.specs.inner.Unsettled.{touched_ids, HasNoted}
+use Rattle.live_view.specs.inner.Unsettled.{touched_ids, AreNoted, HaveNoted}
 use Rattle.live_view.specs.inner.Runs.{stored_keys, AreKeysWith}
 use Rattle.live_view.proofs.ComingLaws.{HaveReplaced-with, IsView-with, all-within, fits-with'}
 use Rattle.live_view.proofs.RowLaws.{rows-with}
@@ -71,7 +71,7 @@ put_all-requires c = all-within c.into_parts-live.result.shown.items c.in-Some-3
     (rw c.in-Some-3.is at c.in_ok-coming.ensures).beside.placed
 
 -- what is touched is noted
-noted : (c : After-put_all) → AreOthersAsStored c.note_all.new.unsettled
+noted : (c : After-put_all) → AreNoted c.note_all.new.unsettled
     (insert c.into_parts-live.result.live.items c.in-Err.at c.args.e.now)
     (rekeyed c.in-Some-2.rekeying.start c.in-Some-2.rekeying.keys
     (insert (all_put c.in-Some-3.coming.puts.items c.into_parts-live.result.shown.items) c.in-Some.place
@@ -81,11 +81,11 @@ noted c =
     ∙ ap (λ id. touched_ids c.into_parts-live.result.shown.items c.in-Some-3.coming.puts.items id
     c.in-Some-2.rekeying.start c.in-Some-2.rekeying.keys) c.id-2.ensures in
     others-with c.into_parts-live.result.live.items c.into_parts-live.result.shown.items
-    c.into_parts-live.result.unsettled c.note_all.new.unsettled c.into_parts-live.ensures.are.others
+    c.into_parts-live.result.unsettled c.note_all.new.unsettled c.into_parts-live.ensures.are.noted
     c.note_all.ensures.kept
     c.args.e.now c.in-Some-3.coming.own c.in-Some.place c.in-Some-2.rekeying.start c.in-Some-3.coming.puts.items
     c.in-Some-2.rekeying.keys (insert c.into_parts-live.result.live.items c.in-Err.at c.args.e.now)
-    (drawn c) (keys c) (replaced c) (subst (λ ids. HasNoted ids c.note_all.new.unsettled) ids_are
+    (drawn c) (keys c) (replaced c) (subst (λ ids. HaveNoted ids c.note_all.new.unsettled) ids_are
     c.in_ok-note_all.ensures.noted)
 
 pub set_keys-requires : goal.set_keys-requires
@@ -136,7 +136,7 @@ joined-requires c =
           ∙ ap₂ (λ rs ns. has_row new_rows row || (has_row rs row && not (has_row ns row)))
           c.in_ok-reserve.ensures.rows c.new.ensures)
           (replaced d));
-      others = c.settle_all.ensures (subst₂ (AreOthersAsStored c.note_all.new.unsettled) (sym live_is) (sym shown_is)
+      noted = c.settle_all.ensures (subst₂ (AreNoted c.note_all.new.unsettled) (sym live_is) (sym shown_is)
           (noted d));
     }
 

@@ -1,4 +1,4 @@
-use Rattle.std.proofs.Common.{◌≡◌, [], ◌∷◌, not, ◌&&◌, ◌||◌, remove, slice_get, Some, refl, sym, ap, ap₂, ◌∙◌, subst, subst₂, ◌<◌, List, length, Option, None, IsSomeAnd, arith, ℕ}
+use Rattle.std.proofs.Common.{◌≡◌, not, ◌&&◌, ◌||◌, remove, slice_get, Some, refl, sym, ap, ◌∙◌, subst, subst₂, ◌<◌, List, length, Option, None, IsSomeAnd, arith, ℕ}
 use Rattle.std.proofs.lemmas.Option.{slice_get_within}
 use Rattle.elem.specs.ElementValue.{ElementValue}
 use Rattle.elem_store.specs.Places.{IsAt}
@@ -7,8 +7,8 @@ use Rattle.links.specs.Rows.{has_row, rows_of}
 use Rattle.view.specs.Shown.{IsView}
 use Rattle.live_view.specs.inner.Coming.{rekeyed, HasGone, IsGoing}
 use Rattle.live_view.specs.inner.Putting.{all_put}
-use Rattle.view.specs.Kept.{AreOthersAsStored, HaveRowsOf}
-use Rattle.live_view.specs.inner.Unsettled.{touched_ids, HasNoted}
+use Rattle.view.specs.Kept.{HaveRowsOf}
+use Rattle.live_view.specs.inner.Unsettled.{touched_ids, AreNoted, HaveNoted}
 use Rattle.live_view.proofs.ComingLaws.{HasGone-without, IsView-without, fits-without', all-within, gone-already}
 use Rattle.live_view.proofs.Redrawn.{at_place}
 use Rattle.live_view.proofs.RowLaws.{rows-without}
@@ -106,7 +106,7 @@ set_keys-requires c =
     (held d).0 (place d) (rw c.in-Some-2.is at c.in_ok-rekeying.ensures) (going d))
 
 -- what is touched is noted
-noted : (c : After-put_all) → AreOthersAsStored c.note_all.new.unsettled
+noted : (c : After-put_all) → AreNoted c.note_all.new.unsettled
     (remove c.into_parts-live.result.live.items c.in-Ok.at)
     (rekeyed c.in-Some-2.rekeying.start c.in-Some-2.rekeying.keys
     (remove (all_put c.in-Some-3.puts.items c.into_parts-live.result.shown.items) c.in-Some.place))
@@ -115,12 +115,12 @@ noted c =
     ∙ ap (λ n. touched_ids c.into_parts-live.result.shown.items c.in-Some-3.puts.items n c.in-Some-2.rekeying.start
     c.in-Some-2.rekeying.keys) (sym (held c).1) in
     others-without c.into_parts-live.result.live.items c.into_parts-live.result.shown.items
-    c.into_parts-live.result.unsettled c.note_all.new.unsettled c.into_parts-live.ensures.are.others
+    c.into_parts-live.result.unsettled c.note_all.new.unsettled c.into_parts-live.ensures.are.noted
     c.note_all.ensures.kept
     c.index.result.now c.in-Some.place c.in-Some-2.rekeying.start c.in-Some-3.puts.items c.in-Some-2.rekeying.keys
     (remove c.into_parts-live.result.live.items c.in-Ok.at)
     (place c) (going c) (rw c.in-Some-2.is at c.in_ok-rekeying.ensures) (gone c)
-    (subst (λ ids. HasNoted ids c.note_all.new.unsettled) ids_are c.in_ok-note_all.ensures.noted)
+    (subst (λ ids. HaveNoted ids c.note_all.new.unsettled) ids_are c.in_ok-note_all.ensures.noted)
 
 -- the lists once it is gone
 shown-is : (c : After-remove-2) → c.set_keys.new.elements.items
@@ -154,7 +154,7 @@ joined-requires-2 c =
           ∙ ap (λ ns. has_row ns row || (has_row c.into_parts-live.result.table.rows row
           && not (has_row old_rows row))) c.new.ensures)
           (gone d));
-      others = c.settle_all.ensures (subst₂ (AreOthersAsStored c.note_all.new.unsettled) (sym live_is) (sym shown_is)
+      noted = c.settle_all.ensures (subst₂ (AreNoted c.note_all.new.unsettled) (sym live_is) (sym shown_is)
           (noted (goal.at.joined-requires-2 c).After-put_all));
     }
 

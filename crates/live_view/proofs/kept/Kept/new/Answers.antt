@@ -8,5 +8,5 @@ unfolding placed settled shown
 invariant_of-result c = rw (c.new.ensures.items, c.new-2.ensures.items, c.new-3.ensures) (record {
   view = record { exact = refl; ordered = refl; all_live = refl; keys = refl };
   table = λ named namer. refl;
-  others = λ id f. refl;
+  noted = record { others = λ id f. refl; keyed = λ id f. refl };
 })

@@ -15,12 +15,12 @@ invariant_of-self c = rw (c.replace.ensures.items, c.replace-2.ensures.items) (r
   view = IsView-put _ _ _ _ _ _ c.self.invariant.view (is c);
   table = rw (held-redrawn _ c.self.inside.shown.items _ _ _ _ c.self.invariant.view (is c))
       (rows-redrawn c.args.redrawing.held c.self.inside.live.items c.self.inside.table.rows c.self.invariant.table);
-  others = rw (
+  noted = rw (
     held-redrawn _ c.self.inside.shown.items _ _ _ _ c.self.invariant.view (is c),
     shown-redrawn_at _ c.self.inside.shown.items _ _ _ _ c.self.invariant.view (is c),
   )
       (others-redrawn c.args.redrawing.held c.self.inside.live.items c.self.inside.shown.items c.self.inside.unsettled
-      c.self.invariant.others);
+      c.self.invariant.noted);
 })
 
 pub returns : goal.returns

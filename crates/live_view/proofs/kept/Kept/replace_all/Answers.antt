@@ -3,7 +3,7 @@ use Rattle.elem_store.specs.Updates.{ids_of}
 use Rattle.links.specs.Rows.{has_row}
 use Rattle.live_view.specs.inner.Putting.{all_put}
 use Rattle.live_view.specs.inner.Replacing.{HaveReplaced}
-use Rattle.live_view.specs.inner.Unsettled.{HasNoted}
+use Rattle.live_view.specs.inner.Unsettled.{HaveNoted}
 use Rattle.live_view.proofs.ComingLaws.{all-within}
 use Rattle.live_view.proofs.UnsettledLaws.{others-kept}
 use Rattle.live_view.proofs.LiveLaws.{IsLiveView-after, IsView-after, replaced}
@@ -13,8 +13,8 @@ pub invariant_of-self-in_err-note_all : goal.invariant_of-self-in_err-note_all
 invariant_of-self-in_err-note_all c = rw c.reserve.ensures.rows (record {
   view = c.self.invariant.view;
   table = c.self.invariant.table;
-  others = others-kept c.self.inside.live.items c.self.inside.shown.items c.self.inside.unsettled
-      c.note_all.new.unsettled c.self.invariant.others c.note_all.ensures.kept;
+  noted = others-kept c.self.inside.live.items c.self.inside.shown.items c.self.inside.unsettled
+      c.note_all.new.unsettled c.self.invariant.noted c.note_all.ensures.kept;
 })
 
 pub put_all-requires : goal.put_all-requires
@@ -48,7 +48,7 @@ invariant_of-self-2 c =
     (λ row. c.replace.ensures.rows row ∙ ap (λ rows. has_row c.in_ok-rows.rows row
     || (has_row rows row && not (has_row c.in_ok-old_rows.old_rows row))) c.reserve.ensures.rows)
     c.note_all.ensures.kept
-    (subst (λ ids. HasNoted ids c.note_all.new.unsettled)
+    (subst (λ ids. HaveNoted ids c.note_all.new.unsettled)
     (c.in_ok-add_ids.ensures ∙ ap₂ (λ xs es. xs ++ ids_of es) c.in_ok-ids.ensures c.as_slice-2.ensures.value)
     c.in_ok-note_all.ensures.noted)
     (rw (c.put_all.ensures.items, c.put_all-2.ensures.items) at c.settle_all.ensures))

@@ -2,7 +2,7 @@
 use Rattle.std.specs.Prelude.{◌≡◌, IsPermutation}
 use Rattle.std.proofs.Common.{subst, sym}
 use Rattle.elem_store.specs.Updates.{ids_of}
-use Rattle.view.specs.Kept.{AreOthersAsStored, HaveRowsOf}
+use Rattle.view.specs.Kept.{AreOthersAsStored, AreOthersKeyedAsStored, HaveRowsOf}
 use Rattle.view.specs.Shown.{live_elements}
 use Rattle.replica.proofs.board.Board.given.Goals as goal
 
@@ -19,4 +19,7 @@ changed-requires-clause-lookup c =
       others = subst (λ live. AreOthersAsStored c.unsettled.result.now live c.elements.result.now)
           sound.view (subst (AreOthersAsStored c.unsettled.result.now c.args.self.now.view)
           (sym c.elements.ensures.exact) c.unsettled.ensures);
+      keyed = subst (λ live. AreOthersKeyedAsStored c.rekeyed.result.now live c.elements.result.now)
+          sound.view (subst (AreOthersKeyedAsStored c.rekeyed.result.now c.args.self.now.view)
+          (sym c.elements.ensures.exact) c.rekeyed.ensures);
     }
