@@ -34,4 +34,4 @@ string-there bytes at end up high begins ends =
       begins,
       ends,
     )
-        refl
+    refl

@@ -348,7 +348,9 @@ module _ (written : List ℕ) where
     pub stretch-appended : AreAlike ground.Between (b ∷ xs) → is_space b ≡ false → Is (between d ds) (b ∷ xs ++ more)
         → Is (between (grown d (b ∷ xs)) ds) more
     stretch-appended (inl blank) solid = absurd (false≢true (sym solid ∙ blank.0))
-    stretch-appended (inr (inr string)) solid =
+    stretch-appended (inr (inr (inr word))) solid =
+        (literals (b ∷ xs) d ds (literal-plain (b ∷ xs) (inr word)) more).1
+    stretch-appended (inr (inr (inl string))) solid =
         λ r. subst (λ t. Is (between (grown d t) ds) more) (sym string.is)
         (string-passed string.text more d ds (all-pass is_plain is_plain (λ x e. e) string.text string.plain)
         (subst (Is (between d ds)) (ap (λ t. t ++ more) string.is
@@ -362,6 +364,8 @@ module _ (written : List ℕ) where
         → Is (between d ds) more
     stretch-dropped (inl blank) space =
         (blanks (b ∷ xs) d ds (all-pass is_space is_space (λ x e. e) (b ∷ xs) blank) more).1
-    stretch-dropped (inr (inr string)) space =
+    stretch-dropped (inr (inr (inr word))) space =
+        absurd (let solid = literal-plain (b ∷ xs) (inr word) in grind (arith, nat_tests))
+    stretch-dropped (inr (inr (inl string))) space =
         absurd (let is : b ≡ 34 = ap (λ t. get_or t 0 0) string.is in grind (arith, nat_tests))
     stretch-dropped (inr (inl digits)) space = absurd (let digit = digits.0 in grind (arith, nat_tests))

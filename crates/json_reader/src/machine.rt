@@ -19,6 +19,7 @@ use crate::fault::JsonFault;
 use crate::number::{Part, extends_number, number_end};
 use crate::sequence::Tail;
 use crate::staying::{Ground, stay_end};
+use crate::word::word_end;
 use json_text::{bare_end, is_space};
 
 /// What a string is for.
@@ -219,6 +220,24 @@ impl Machine {
         }
         self.mode = after_string(role);
         end + 1
+    }
+
+    /// Takes a word, if a value must come on this ground and the word stands whole at an offset. It
+    /// gives the offset after it.
+    #[inline(always)]
+    pub(crate) fn pass_word(&mut self, ground: Ground, bytes: &[u8], at: usize) -> usize
+        requires { at ≤ length bytes.now }
+        ensures within { (at ≤ result) × (result ≤ length bytes.now) }
+        ensures ran { run 128 (state self.old.mode self.old.brackets) (stretch bytes.now at result)
+            ≡ state self.new.mode self.new.brackets }
+        ensures alike { AreAlike ground (stretch bytes.now at result) }
+    {
+        let (Ground::Between, Mode::Value, Some(end)) = (ground, self.mode, word_end(bytes, at))
+        else {
+            return at;
+        };
+        self.mode = Mode::After;
+        end
     }
 
     /// Takes a comma behind a value.

@@ -5,7 +5,7 @@ use Rattle.std.specs.List.{AllByRecursion}
 use Rattle.json_text.specs.Characters.{is_space, is_blank, is_plain, quote}
 use Rattle.json_text.specs.Compact.{compact}
 use Rattle.json_text.specs.Walk.{Place, outside, inside, place_of, Quoted}
-use Rattle.json_text.specs.Tree.{Tree, IsGood, spelling}
+use Rattle.json_text.specs.Tree.{Tree, IsGood, IsWord, spelling}
 use Rattle.json_text.specs.Value.{Stands, extends_number}
 use Rattle.json_reader.specs.inner.Drafts.{Drafted, fresh, grown, named, parted, closed, IsWhole}
 use Rattle.json_reader.specs.inner.Machine.{Bracket, JsonFault, Machine, Mode, state, ended, refused, top, step, fault_of}
@@ -128,7 +128,7 @@ pub record IsPlainString (bytes : List ℕ) : Type 0 where
 abbrev pub AreAlike : Ground → List ℕ → Type 0
 AreAlike ground.Quoted bytes = AllByRecursion (λ b. is_plain b ≡ true) bytes
 AreAlike ground.Between bytes = AllByRecursion (λ b. is_space b ≡ true) bytes
-    ⊎ (AllByRecursion (λ b. extends_number b ≡ true) bytes ⊎ IsPlainString bytes)
+    ⊎ (AllByRecursion (λ b. extends_number b ≡ true) bytes ⊎ (IsPlainString bytes ⊎ IsWord bytes))
 
 -- the writer with the bytes before an offset copied
 abbrev pub copied : List ℕ → ℕ → Writer → Writer

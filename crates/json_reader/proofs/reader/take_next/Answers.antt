@@ -13,10 +13,3 @@ returns-in_ok-put-in-44 c = (
   λ from read. c.in_ok-put-in-44.ensures from c.args.machine.now read
       (rw c.in-44.is (c.if-not-separate.ensures.taken refl)),
 )
-
-pub returns-in_ok-put-in_default : goal.returns-in_ok-put-in_default
-returns-in_ok-put-in_default c = (
-  omega arith,
-  omega (arith, c.requires.within),
-  λ from read. c.in_ok-put-in_default.ensures from c.args.machine.now read (c.if-not-follow.ensures.taken refl),
-)

@@ -1,4 +1,4 @@
-use Rattle.std.proofs.Common.{◌≡◌, ◌+◌, ◌<◌, true, length, get_or, arith, inr, refl}
+use Rattle.std.proofs.Common.{◌≡◌, ◌+◌, ◌<◌, true, length, get_or, arith, inl, inr, refl}
 use Rattle.std.proofs.lemmas.Bool.Decides.{nat_tests}
 use Rattle.json_text.specs.Characters.{is_bare, is_plain}
 use Rattle.json_text.proofs.CallerLemmas.{passed_all}
@@ -19,12 +19,12 @@ returns c =
       within = (omega (arith, found.within.0), omega (arith, high));
       ran =
           rw (there, c.after_string-self.ensures)
-              (string-runs c.args.self.now.mode c.args.self.now.brackets c.in-Between-Some.role (stretch bytes (at + 1) end) c.in-Between-Some.ensures
-              (passed_all is_bare (λ b. is_bare b ≡ true) (λ b is. is) bytes (at + 1) end found.value));
-      alike = rw c.in-Between-Some.is-0 (inr (inr (record {
+          (string-runs c.args.self.now.mode c.args.self.now.brackets c.in-Between-Some.role (stretch bytes (at + 1) end) c.in-Between-Some.ensures
+          (passed_all is_bare (λ b. is_bare b ≡ true) (λ b is. is) bytes (at + 1) end found.value));
+      alike = rw c.in-Between-Some.is-0 (inr (inr (inl (record {
         text = stretch bytes (at + 1) end;
         plain = passed_all is_bare (λ b. is_plain b ≡ true) (λ b is. grind (arith, nat_tests)) bytes (at + 1) end
             found.value;
         is = there;
-      })));
+      }))));
     }
