@@ -98,7 +98,8 @@ pub(crate) fn is_image(kind: &Kind) -> bool
 }
 
 /// The members that are no header members of the kind, in their order, to be shared. They are kept
-/// as long as the element, so no room is left beside them.
+/// as long as the element, so they move to a place without room beside them; the one in which they
+/// were read serves the next element.
 pub(crate) fn others(
     alloc: Global,
     members: List<Member>,
@@ -109,8 +110,9 @@ pub(crate) fn others(
 {
     let mut others = members.into_vec();
     drop_headers(&mut others, kind);
-    others.shrink_to_fit();
-    SharedMembers::new(alloc, List::from_vec(others))
+    let mut kept = Vec::with_capacity(alloc, others.len())?;
+    kept.append(&mut others)?;
+    SharedMembers::new(alloc, List::from_vec(kept))
 }
 
 /// Drops the header members of the kind. Most kinds have only those that all have.

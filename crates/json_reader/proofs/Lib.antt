@@ -15,5 +15,6 @@ mod Placing
 mod Drafting
 mod Ready
 mod Written
+mod PlainStrings
 mod Copying
 pub mod CallerLemmas

@@ -1,23 +1,74 @@
 -- Numbers that go on over a stretch.
-use Rattle.std.proofs.Common.{◌≡◌, ℕ, Bool, true, List, [], ◌∷◌, ◌++◌, ◌&&◌, not, Some, None, option_and_then, refl, ap, ◌∙◌, arith}
-use Rattle.std.specs.List.{AllByRecursion}
+use Rattle.std.proofs.Common.{◌≡◌, ℕ, ◌+◌, ◌<◌, ◌≤◌, Bool, true, List, [], ◌∷◌, ◌++◌, ◌&&◌, not, Some, None, option_and_then, drop, length, get_or, ◌⊎◌, inl, inr, refl, ap, ◌∙◌, arith}
+use Rattle.std.specs.List.{AllByRecursion, prefix_len}
 use Rattle.std.proofs.lemmas.Bool.Decides.{nat_tests}
+use Rattle.json_text.specs.Characters.{is_digit}
 use Rattle.json_text.specs.Value.{extends_number}
+use Rattle.json_text.proofs.CallerLemmas.{passed_all}
 use Rattle.json_reader.specs.inner.Machine.{Part, Minus, Zero, Whole, Dot, Fraction, Letter, Sign, Exponent, Bracket, Number, state, top, applied, is_complete, number_move_on, part_after, parts_after}
 use Rattle.json_reader.specs.inner.Runs.{run}
+use Rattle.json_reader.specs.inner.Writing.{stretch}
+use Rattle.json_reader.proofs.Copying.{alone}
+use Rattle.json_reader.proofs.Outcomes.{stretch_more}
 
--- after one byte more
-pub parts_after-push : (part : Part) (xs : List ℕ) (b : ℕ) (last next : Part) → parts_after part xs ≡ Some last
-    → part_after last b ≡ Some next → parts_after part (xs ++ b ∷ []) ≡ Some next
-parts_after-push part [] b last next here more =
-    let same : part ≡ last = cc in
-    ap (option_and_then (λ p. parts_after p [])) (ap (λ p. part_after p b) same ∙ more)
-parts_after-push part (x ∷ xs) b last next here more =
-    elim (part_after part x) as (λ o. option_and_then (λ p. parts_after p xs) o ≡ Some last
-    → option_and_then (λ p. parts_after p (xs ++ b ∷ [])) o ≡ Some next) [
+-- after more bytes
+pub parts_after-append : (part mid last : Part) (xs ys : List ℕ) → parts_after part xs ≡ Some mid
+    → parts_after mid ys ≡ Some last → parts_after part (xs ++ ys) ≡ Some last
+parts_after-append part mid last [] ys here more = let same : part ≡ mid = cc in rw same more
+parts_after-append part mid last (x ∷ xs) ys here more =
+    elim (part_after part x) as (λ o. option_and_then (λ p. parts_after p xs) o ≡ Some mid
+    → option_and_then (λ p. parts_after p (xs ++ ys)) o ≡ Some last) [
       | None ↦ λ e. cc
-      | Some p ↦ λ e. parts_after-push p xs b last next e more
+      | Some p ↦ λ e. parts_after-append p mid last xs ys e more
     ] here
+
+-- after a stretch and another one behind it
+pub stretches-join : (part mid last : Part) (bytes : List ℕ) (at next end : ℕ) → at ≤ next → next ≤ end
+    → parts_after part (stretch bytes at next) ≡ Some mid → parts_after mid (stretch bytes next end) ≡ Some last
+    → parts_after part (stretch bytes at end) ≡ Some last
+stretches-join part mid last bytes at next end low up here more =
+    rw (stretch_more bytes at next low end up) (parts_after-append part mid last _ _ here more)
+
+-- This part goes on with digits as it is.
+abbrev pub TakesDigits : Part → Type 0
+TakesDigits part = (b : ℕ) → is_digit b ≡ true → part_after part b ≡ Some part
+
+pub takes-digits : (part : Part) → (part ≡ Whole) ⊎ ((part ≡ Fraction) ⊎ (part ≡ Exponent)) → TakesDigits part
+takes-digits part (inl e) b is = rw (e, is) refl
+takes-digits part (inr (inl e)) b is = rw (e, is) refl
+takes-digits part (inr (inr e)) b is = rw (e, is) refl
+
+digits-stay : (part : Part) → TakesDigits part → (xs : List ℕ) → AllByRecursion (λ b. is_digit b ≡ true) xs
+    → parts_after part xs ≡ Some part
+digits-stay part takes [] digits = refl
+digits-stay part takes (x ∷ xs) digits = rw (takes x digits.0) (digits-stay part takes xs digits.1)
+
+-- after the digits that stand at an offset
+pub digits-pass : (part : Part) → TakesDigits part → (bytes : List ℕ) (at end : ℕ)
+    → end ≡ at + prefix_len is_digit (drop at bytes) → parts_after part (stretch bytes at end) ≡ Some part
+digits-pass part takes bytes at end is =
+    digits-stay part takes (stretch bytes at end) (passed_all is_digit _ (λ b is. is) bytes at end is)
+
+-- after a byte, and what stands behind it
+pub byte-follows : (part mid last : Part) (bytes : List ℕ) (at next end : ℕ) → at < length bytes → next ≡ at + 1
+    → next ≤ end → part_after part (get_or bytes at 0) ≡ Some mid → parts_after mid (stretch bytes next end) ≡ Some last
+    → parts_after part (stretch bytes at end) ≡ Some last
+byte-follows part mid last bytes at next end high is up first others =
+    rw (stretch_more bytes at (at + 1) (omega arith) end (omega arith), alone bytes at high, first, ← is) others
+
+-- after a point, a digit and those behind it
+pub fraction-follows : (part : Part) (bytes : List ℕ) (at end : ℕ) → (part ≡ Zero) ⊎ (part ≡ Whole)
+    → at + 2 ≤ length bytes → get_or bytes at 0 ≡ 46 → is_digit (get_or bytes (at + 1) 0) ≡ true → at + 2 ≤ end
+    → end ≡ at + 2 + prefix_len is_digit (drop (at + 2) bytes)
+    → parts_after part (stretch bytes at end) ≡ Some Fraction
+fraction-follows part bytes at end begun high point digit up is =
+    byte-follows part Dot Fraction bytes at (at + 1) end (omega arith) refl (omega arith) (dotted begun)
+    (byte-follows Dot Fraction Fraction bytes (at + 1) (at + 2) end (omega arith) (omega arith) up (rw digit refl)
+    (digits-pass Fraction (takes-digits Fraction (inr (inl refl))) bytes (at + 2) end is))
+  where
+    dotted : (part ≡ Zero) ⊎ (part ≡ Whole) → part_after part (get_or bytes at 0) ≡ Some Dot
+    dotted (inl e) = rw (e, point) refl
+    dotted (inr e) = rw (e, point) refl
 
 -- a byte that a number goes on with
 part-extends : (part : Part) (b : ℕ) (next : Part) → part_after part b ≡ Some next → extends_number b ≡ true

@@ -1,5 +1,5 @@
 -- A writer that is ready for the rest behind a value, whose compact text it has written, was ready for the value.
-use Rattle.std.proofs.Common.{true≢false, ◌≡◌, ne_eqb, ℕ, ◌+◌, List, [], ◌∷◌, ◌++◌, Bool, true, false, eqb, map, flat_map, refl, sym, ap, subst, ◌∙◌, arith, inl, inr, append_assoc, append-nil, encode_utf8, drop, filter, bytes_eq, IsUtf8}
+use Rattle.std.proofs.Common.{get_or, true≢false, ◌≡◌, ne_eqb, ℕ, ◌+◌, List, [], ◌∷◌, ◌++◌, Bool, true, false, eqb, map, flat_map, refl, sym, ap, subst, ◌∙◌, arith, inl, inr, append_assoc, append-nil, encode_utf8, drop, filter, bytes_eq, IsUtf8}
 use Rattle.std.specs.List.{list_all, AllByRecursion, join_with_byte}
 use Rattle.std.proofs.lemmas.Bool.{false≢true}
 use Rattle.std.proofs.lemmas.Bool.Decides.{nat_tests}
@@ -13,7 +13,7 @@ use Rattle.json_text.specs.Walk.{inside, Quoted}
 use Rattle.json_text.specs.Tree.{Piece, bare, letter, unit, IsPiece, piece_spelling, string_spelling, array, object, Label, unnamed, named, IsLabel, label_spelling, Tree, scalar, text, empty, filled, Values, last, next, spelling, values_spelling, IsGood, AreGood}
 use Rattle.json_reader.specs.inner.Drafts.{Drafted, fresh, grown, pair_text, pairs_text}
 use Rattle.json_reader.specs.inner.Places.{quoted}
-use Rattle.json_reader.specs.inner.Writing.{Writing, between, deed_at, Can, Done, AreAlike, Ready, Deed, Skip, Keep, Slash, Push}
+use Rattle.json_reader.specs.inner.Writing.{Writing, between, deed_at, Can, Done, AreAlike, IsPlainString, Ready, Deed, Skip, Keep, Slash, Push}
 use Rattle.json_text.proofs.CallerLemmas.{members-utf8, content-first, is_part_of_literal, list_all-each, literal-plain, regroup-last, regroup-next, plain-bare, quoted-bare, plain-quote, plain-slash, hex-plain, pieces-once, bytes_eq-true, bytes_eq-same, collapsed-names, quote-Quoted}
 use Rattle.json_reader.proofs.Drafting.{IsRow, row_none, row_more, labelled, whole, closed_so}
 use Rattle.json_reader.specs.declared.staying.Ground.TheVariants as ground
@@ -214,6 +214,16 @@ module _ (written : List ℕ) where
         )),
       )
 
+  -- a string in which no character is escaped is its own quote
+  string-passed : (xs more : List ℕ) (d : Drafted) (ds : List Drafted) → list_all is_plain xs ≡ true
+      → Is (between d ds) (34 ∷ (xs ++ 34 ∷ more)) → Is (between (grown d (34 ∷ (xs ++ 34 ∷ []))) ds) more
+  string-passed xs more d ds plain r =
+      let begun = r.1 (within false false (34 ∷ []) d ds) refl in
+      let ended = (plains xs (34 ∷ []) false d ds plain (34 ∷ more)).1 begun in
+      let whole = ended.0 in
+      ended.1 (between (grown d (34 ∷ (xs ++ 34 ∷ []))) ds)
+      (λ text there. ap (λ t. between (grown d t) ds) (whole.same refl ∙ ap quote (quoted-once whole.quoted there)))
+
   -- ---- the names of members
   name-ready : (l : Label) (rest : List ℕ) (d : Drafted) (ds : List Drafted) → IsLabel object l
       → Is (between (labelled d (quote (label_name l))) ds) rest → Is (between d ds) (label_spelling l ++ rest)
@@ -338,7 +348,14 @@ module _ (written : List ℕ) where
     pub stretch-appended : AreAlike ground.Between (b ∷ xs) → is_space b ≡ false → Is (between d ds) (b ∷ xs ++ more)
         → Is (between (grown d (b ∷ xs)) ds) more
     stretch-appended (inl blank) solid = absurd (false≢true (sym solid ∙ blank.0))
-    stretch-appended (inr digits) solid =
+    stretch-appended (inr (inr (inr word))) solid =
+        (literals (b ∷ xs) d ds (literal-plain (b ∷ xs) (inr word)) more).1
+    stretch-appended (inr (inr (inl string))) solid =
+        λ r. subst (λ t. Is (between (grown d t) ds) more) (sym string.is)
+        (string-passed string.text more d ds (all-pass is_plain is_plain (λ x e. e) string.text string.plain)
+        (subst (Is (between d ds)) (ap (λ t. t ++ more) string.is
+        ∙ ap (λ t. 34 ∷ t) (append_assoc string.text (34 ∷ []) more)) r))
+    stretch-appended (inr (inl digits)) solid =
         (literals (b ∷ xs) d ds (all-pass extends_number is_part_of_literal (λ x part. grind (arith, nat_tests))
         (b ∷ xs)
         digits) more).1
@@ -347,4 +364,8 @@ module _ (written : List ℕ) where
         → Is (between d ds) more
     stretch-dropped (inl blank) space =
         (blanks (b ∷ xs) d ds (all-pass is_space is_space (λ x e. e) (b ∷ xs) blank) more).1
-    stretch-dropped (inr digits) space = absurd (let digit = digits.0 in grind (arith, nat_tests))
+    stretch-dropped (inr (inr (inr word))) space =
+        absurd (let solid = literal-plain (b ∷ xs) (inr word) in grind (arith, nat_tests))
+    stretch-dropped (inr (inr (inl string))) space =
+        absurd (let is : b ≡ 34 = ap (λ t. get_or t 0 0) string.is in grind (arith, nat_tests))
+    stretch-dropped (inr (inl digits)) space = absurd (let digit = digits.0 in grind (arith, nat_tests))

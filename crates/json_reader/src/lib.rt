@@ -13,6 +13,7 @@ mod reader;
 mod scanning;
 mod sequence;
 mod staying;
+mod word;
 mod writing;
 
 pub use fault::JsonFault;

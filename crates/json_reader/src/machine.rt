@@ -3,21 +3,24 @@
 //! Its state is a mode and the brackets that are open. It takes no memory and can be kept between
 //! calls.
 
-ghost use Rattle.std.specs.Prelude.{◌≡◌, ◌↔◌, ◌-◌, ◌≤◌, IsTrue, [], false, take, drop, length};
+ghost use Rattle.std.specs.Prelude.{◌≡◌, ◌↔◌, ◌-◌, ◌<◌, ◌≤◌, IsTrue, [], false, take, drop, length, slice_index, IfSome};
 ghost use Rattle.std.specs.List.{AllByRecursion};
 ghost use Rattle.json_text.specs.Characters.{is_space, is_hex};
 ghost use Rattle.json_text.specs.Tree.{opening, closing};
 ghost use Rattle.json_reader.specs.inner.Machine.{container_of, first_move, closes_bracket, after_comma, after_string, value_begun, after_move, led_on, tail_led, string_move, first_letter, after_letter, moved, string_fault, bracket_fault, fault_of, top, step, state, ended, Stepped};
 ghost use Rattle.json_reader.specs.inner.Runs.{is_over, run};
 ghost use Rattle.json_reader.specs.inner.Writing.{AreAlike, stretch};
+ghost use Rattle.json_reader.specs.declared.machine.Mode.TheVariants.{Quoted};
 ghost use Rattle.json_reader.specs.declared.machine.Move.TheVariants.{To};
+ghost use Rattle.json_reader.specs.declared.machine.Place.TheVariants.{Plain};
 
 use crate::brackets::{Bracket, Brackets};
 use crate::fault::JsonFault;
 use crate::number::{Part, extends_number, number_end};
 use crate::sequence::Tail;
 use crate::staying::{Ground, stay_end};
-use json_text::is_space;
+use crate::word::word_end;
+use json_text::{bare_end, is_space};
 
 /// What a string is for.
 #[derive(Clone, Copy)]
@@ -177,13 +180,64 @@ impl Machine {
             ≡ state self.new.mode self.new.brackets }
         ensures left { result ≡ false → self.new ≡ self.old }
     {
-        let role = match (self.mode, self.brackets.top()) {
-            (Mode::Name, _) | (Mode::Fresh, Some(Bracket::Curly)) => Role::Name,
-            (Mode::Value, _) | (Mode::Fresh, Some(Bracket::Square)) => Role::Value,
-            _ => return false,
+        let Some(role) = self.awaited_string() else {
+            return false;
         };
         self.mode = Mode::Quoted(role, Place::Plain);
         true
+    }
+
+    /// What a string would be for, if one may begin here.
+    #[inline(always)]
+    fn awaited_string(&self) -> Option<Role>
+        ensures { IfSome result (λ role. step 128 self.now.mode self.now.brackets 34
+            ≡ state (Quoted role Plain) self.now.brackets) }
+    {
+        match (self.mode, self.brackets.top()) {
+            (Mode::Name, _) | (Mode::Fresh, Some(Bracket::Curly)) => Some(Role::Name),
+            (Mode::Value, _) | (Mode::Fresh, Some(Bracket::Square)) => Some(Role::Value),
+            _ => None,
+        }
+    }
+
+    /// Takes a whole string that begins at an offset, if one may begin on this ground and all its
+    /// characters are ASCII and stand for themselves. It gives the offset after it.
+    #[inline(always)]
+    pub(crate) fn pass_string(&mut self, ground: Ground, bytes: &[u8], at: usize) -> usize
+        requires within { at < length bytes.now }
+        requires quote { slice_index bytes.now at ≡ 34 }
+        ensures within { (at ≤ result) × (result ≤ length bytes.now) }
+        ensures ran { run 128 (state self.old.mode self.old.brackets) (stretch bytes.now at result)
+            ≡ state self.new.mode self.new.brackets }
+        ensures alike { AreAlike ground (stretch bytes.now at result) }
+    {
+        let (Ground::Between, Some(role)) = (ground, self.awaited_string()) else {
+            return at;
+        };
+        let end = bare_end(bytes, at + 1);
+        if end == bytes.len() || bytes[end] != b'"' {
+            return at;
+        }
+        self.mode = after_string(role);
+        end + 1
+    }
+
+    /// Takes a word, if a value must come on this ground and the word stands whole at an offset. It
+    /// gives the offset after it.
+    #[inline(always)]
+    pub(crate) fn pass_word(&mut self, ground: Ground, bytes: &[u8], at: usize) -> usize
+        requires { at ≤ length bytes.now }
+        ensures within { (at ≤ result) × (result ≤ length bytes.now) }
+        ensures ran { run 128 (state self.old.mode self.old.brackets) (stretch bytes.now at result)
+            ≡ state self.new.mode self.new.brackets }
+        ensures alike { AreAlike ground (stretch bytes.now at result) }
+    {
+        let (Ground::Between, Mode::Value, Some(end)) = (ground, self.mode, word_end(bytes, at))
+        else {
+            return at;
+        };
+        self.mode = Mode::After;
+        end
     }
 
     /// Takes a comma behind a value.

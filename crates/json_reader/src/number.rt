@@ -1,9 +1,12 @@
 //! The literal of a number, byte by byte.
 
-ghost use Rattle.std.specs.Prelude.{◌≡◌, ◌≤◌, Some, length};
+ghost use Rattle.std.specs.Prelude.{◌≡◌, ◌+◌, ◌<◌, ◌≤◌, Some, true, length, slice_index, IsTrue};
+ghost use Rattle.json_text.specs.Characters.{is_digit};
 ghost use Rattle.json_text.specs.Value.{extends_number};
 ghost use Rattle.json_reader.specs.inner.Machine.{part_begun, part_after, parts_after, after_whole, after_fraction, is_complete};
 ghost use Rattle.json_reader.specs.inner.Writing.{stretch};
+
+use json_text::digits_end;
 
 /// The part of a number that came last.
 #[derive(Clone, Copy)]
@@ -110,20 +113,63 @@ pub(crate) fn extends_number(byte: u8) -> bool
     matches!(byte, b'0'..=b'9' | b'.' | b'e' | b'E' | b'+' | b'-')
 }
 
-/// The part that a number has come to which goes on from an offset as far as it can, and the offset
-/// after it.
+/// The part that a number has come to which goes on from an offset, and the offset after that. It
+/// goes on to the end of its fraction, if it has one, or of its digits.
 #[inline(always)]
 pub(crate) fn number_end(part: Part, bytes: &[u8], at: usize) -> (Part, usize)
     requires { at ≤ length bytes.now }
     ensures within { (at ≤ result.1) × (result.1 ≤ length bytes.now) }
     ensures part { parts_after part (stretch bytes.now at result.1) ≡ Some result.0 }
 {
-    let mut last = part;
-    for i in at..bytes.len() {
-        match last.after(bytes[i]) {
-            Some(next) => last = next,
-            None => return (last, i),
-        }
+    let (whole, end) = part_end(part, bytes, at);
+    let (last, after) = fraction_end(whole, bytes, end);
+    (last, after)
+}
+
+/// The same, to the end of the digits.
+#[inline(always)]
+fn part_end(part: Part, bytes: &[u8], at: usize) -> (Part, usize)
+    requires { at ≤ length bytes.now }
+    ensures within { (at ≤ result.1) × (result.1 ≤ length bytes.now) }
+    ensures part { parts_after part (stretch bytes.now at result.1) ≡ Some result.0 }
+{
+    match part {
+        Part::Whole | Part::Fraction | Part::Exponent => (part, digits_end(bytes, at)),
+        Part::Minus if begins_whole(bytes, at) => (Part::Whole, digits_end(bytes, at + 1)),
+        _ => (part, at),
     }
-    (last, bytes.len())
+}
+
+/// Whether a digit stands at an offset that isn't 0.
+#[inline(always)]
+fn begins_whole(bytes: &[u8], at: usize) -> bool
+    ensures { IsTrue result → (at < length bytes.now)
+        × (part_after Part.Minus (slice_index bytes.now at) ≡ Some Part.Whole) }
+{
+    at < bytes.len() && bytes[at] != b'0' && bytes[at].is_ascii_digit()
+}
+
+/// The same, to the end of the fraction behind a whole number.
+#[inline(always)]
+fn fraction_end(part: Part, bytes: &[u8], at: usize) -> (Part, usize)
+    requires { at ≤ length bytes.now }
+    ensures within { (at ≤ result.1) × (result.1 ≤ length bytes.now) }
+    ensures part { parts_after part (stretch bytes.now at result.1) ≡ Some result.0 }
+{
+    match part {
+        Part::Zero | Part::Whole if begins_fraction(bytes, at) => {
+            (Part::Fraction, digits_end(bytes, at + 2))
+        }
+        _ => (part, at),
+    }
+}
+
+/// Whether a point and a digit stand at an offset.
+#[inline(always)]
+fn begins_fraction(bytes: &[u8], at: usize) -> bool
+    requires { at ≤ length bytes.now }
+    ensures { IsTrue result → (at + 2 ≤ length bytes.now) × (slice_index bytes.now at ≡ 46)
+        × (is_digit (slice_index bytes.now (at + 1)) ≡ true) }
+{
+    bytes.len() - at >= 2 && bytes[at] == b'.' && bytes[at + 1].is_ascii_digit()
 }

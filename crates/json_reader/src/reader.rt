@@ -200,13 +200,7 @@ fn take_next(
         writer.new) }
 {
     match bytes[at] {
-        b'"' => {
-            if !machine.begin_string() {
-                return Ok(at);
-            }
-            put(alloc, machine, writer, bytes, at, b'"')?;
-            finish_string(alloc, machine, writer, bytes, at + 1)
-        }
+        b'"' => take_string(alloc, machine, writer, bytes, at),
         b',' => {
             if !machine.separate() {
                 return Ok(at);
@@ -221,14 +215,138 @@ fn take_next(
             put(alloc, machine, writer, bytes, at, bytes[at])?;
             pass_number(machine, writer, bytes, at + 1)
         }
-        byte => {
-            if !machine.follow(byte) {
-                return Ok(at);
-            }
-            put(alloc, machine, writer, bytes, at, byte)?;
-            Ok(at + 1)
-        }
+        b'f' | b'n' | b't' => take_word(alloc, machine, writer, bytes, at),
+        byte => take_byte(alloc, machine, writer, bytes, at, byte),
     }
+}
+
+/// Takes a letter of a word, a bracket, or a space where a value must come, and gives the offset
+/// after it; other bytes it leaves.
+#[inline(always)]
+fn take_byte(
+    alloc: Global,
+    machine: &mut Machine,
+    writer: &mut Writer,
+    bytes: &[u8],
+    at: usize,
+    byte: u8,
+) -> Result<usize, AllocError>
+    requires within { at < length bytes.now }
+    requires byte { slice_index bytes.now at ≡ byte }
+    requires read { (from : ℕ) × HasRead bytes.now from at machine.old writer.old }
+    ensures { IfOk result (λ end. ReadsOn bytes.now at machine.old writer.old end machine.new
+        writer.new) }
+{
+    if !machine.follow(byte) {
+        return Ok(at);
+    }
+    put(alloc, machine, writer, bytes, at, byte)?;
+    Ok(at + 1)
+}
+
+/// Takes a whole word, or of one that is cut off the first letter, and gives the offset after that.
+#[inline(always)]
+fn take_word(
+    alloc: Global,
+    machine: &mut Machine,
+    writer: &mut Writer,
+    bytes: &[u8],
+    at: usize,
+) -> Result<usize, AllocError>
+    requires within { at < length bytes.now }
+    requires read { (from : ℕ) × HasRead bytes.now from at machine.old writer.old }
+    ensures { IfOk result (λ end. ReadsOn bytes.now at machine.old writer.old end machine.new
+        writer.new) }
+{
+    let end = pass_word(machine, writer, bytes, at)?;
+    if end > at {
+        return Ok(end);
+    }
+    take_byte(alloc, machine, writer, bytes, end, bytes[end])
+}
+
+/// Passes a whole word, and gives the offset after it.
+#[inline(always)]
+fn pass_word(
+    machine: &mut Machine,
+    writer: &mut Writer,
+    bytes: &[u8],
+    at: usize,
+) -> Result<usize, AllocError>
+    requires within { at ≤ length bytes.now }
+    requires fits { Fits at writer.old }
+    ensures { IfOk result (λ end. ReadsOn bytes.now at machine.old writer.old end machine.new
+        writer.new) }
+{
+    let end = machine.pass_word(writer.ground(), bytes, at);
+    writer.put_all(bytes, at, end)?;
+    Ok(end)
+}
+
+/// Takes a string, and the colon behind a name. Most strings are passed whole; of another one it
+/// takes the first characters. It gives the offset after that.
+#[inline(always)]
+fn take_string(
+    alloc: Global,
+    machine: &mut Machine,
+    writer: &mut Writer,
+    bytes: &[u8],
+    at: usize,
+) -> Result<usize, AllocError>
+    requires within { at < length bytes.now }
+    requires quote { slice_index bytes.now at ≡ 34 }
+    requires read { (from : ℕ) × HasRead bytes.now from at machine.old writer.old }
+    ensures { IfOk result (λ end. ReadsOn bytes.now at machine.old writer.old end machine.new
+        writer.new) }
+{
+    let end = pass_string(machine, writer, bytes, at)?;
+    if end > at {
+        take_colon(alloc, machine, writer, bytes, end)
+    } else {
+        begin_string(alloc, machine, writer, bytes, end)
+    }
+}
+
+/// Passes a whole string, and gives the offset after it.
+#[inline(always)]
+fn pass_string(
+    machine: &mut Machine,
+    writer: &mut Writer,
+    bytes: &[u8],
+    at: usize,
+) -> Result<usize, AllocError>
+    requires within { at < length bytes.now }
+    requires quote { slice_index bytes.now at ≡ 34 }
+    requires fits { Fits at writer.old }
+    ensures { IfOk result (λ end. ReadsOn bytes.now at machine.old writer.old end machine.new
+        writer.new) }
+{
+    let end = machine.pass_string(writer.ground(), bytes, at);
+    writer.put_all(bytes, at, end)?;
+    Ok(end)
+}
+
+/// Takes the first characters of a string, up to one that is escaped or isn't ASCII, or to its end,
+/// and the colon behind a name. It gives the offset after that.
+#[inline(never)]
+fn begin_string(
+    alloc: Global,
+    machine: &mut Machine,
+    writer: &mut Writer,
+    bytes: &[u8],
+    at: usize,
+) -> Result<usize, AllocError>
+    requires within { at < length bytes.now }
+    requires quote { slice_index bytes.now at ≡ 34 }
+    requires read { (from : ℕ) × HasRead bytes.now from at machine.old writer.old }
+    ensures { IfOk result (λ end. ReadsOn bytes.now at machine.old writer.old end machine.new
+        writer.new) }
+{
+    if !machine.begin_string() {
+        return Ok(at);
+    }
+    put(alloc, machine, writer, bytes, at, b'"')?;
+    finish_string(alloc, machine, writer, bytes, at + 1)
 }
 
 /// Takes what is left of a string, up to a character that is escaped or isn't ASCII, its end, and
@@ -256,6 +374,26 @@ fn finish_string(
     }
     put(alloc, machine, writer, bytes, next, bytes[next])?;
     Ok(next + 1)
+}
+
+/// Takes the colon behind a name, if one stands at an offset, and gives the offset after that.
+#[inline(always)]
+fn take_colon(
+    alloc: Global,
+    machine: &mut Machine,
+    writer: &mut Writer,
+    bytes: &[u8],
+    at: usize,
+) -> Result<usize, AllocError>
+    requires { (from : ℕ) × HasRead bytes.now from at machine.old writer.old }
+    ensures { IfOk result (λ end. ReadsOn bytes.now at machine.old writer.old end machine.new
+        writer.new) }
+{
+    if at == bytes.len() || !machine.end_name(bytes[at]) {
+        return Ok(at);
+    }
+    put(alloc, machine, writer, bytes, at, bytes[at])?;
+    Ok(at + 1)
 }
 
 /// Takes what is left of a number that is under way at an offset, and gives the offset after it.

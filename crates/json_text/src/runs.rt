@@ -3,7 +3,7 @@
 ghost use Rattle.std.specs.Prelude.{◌≡◌, ℕ, ◌+◌, ◌≤◌, Bool, not, map, drop, length};
 ghost use Rattle.std.specs.List.{prefix_len};
 ghost use Rattle.std.specs.Simd.Lanes.{mask_l};
-ghost use Rattle.json_text.specs.Characters.{is_plain, is_bare, is_inert, is_quiet};
+ghost use Rattle.json_text.specs.Characters.{is_plain, is_bare, is_digit, is_inert, is_quiet};
 
 use std::simd::prelude::*;
 
@@ -54,6 +54,23 @@ impl Class for Bare {
             | bytes.simd_eq(u8x16::splat(b'\\'))
             | bytes.simd_lt(u8x16::splat(b' '))
             | bytes.simd_ge(u8x16::splat(0x80))).to_bitmask()
+    }
+}
+
+/// The digits of base 10.
+struct Digit;
+
+impl Class for Digit {
+    ghost holds = { is_digit };
+
+    #[inline(always)]
+    fn has(byte: u8) -> bool {
+        byte.is_ascii_digit()
+    }
+
+    #[inline(always)]
+    fn others(bytes: u8x16) -> u64 {
+        (bytes.simd_lt(u8x16::splat(b'0')) | bytes.simd_ge(u8x16::splat(58))).to_bitmask()
     }
 }
 
@@ -119,6 +136,16 @@ pub fn bare_end(bytes: &[u8], at: usize) -> usize
     ensures within { (at ≤ result) × (result ≤ length bytes.now) }
 {
     end_of::<Bare>(bytes, at)
+}
+
+/// Where the first byte stands from an offset on that isn't a digit.
+#[inline(always)]
+pub fn digits_end(bytes: &[u8], at: usize) -> usize
+    requires { at ≤ length bytes.now }
+    ensures value { result ≡ at + prefix_len is_digit (drop at bytes.now) }
+    ensures within { (at ≤ result) × (result ≤ length bytes.now) }
+{
+    end_of::<Digit>(bytes, at)
 }
 
 /// Where the first quotation mark, bracket or comma stands from an offset on.

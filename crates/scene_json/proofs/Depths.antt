@@ -1,10 +1,11 @@
 -- How a pass over a text counts the brackets that are open at once.
-use Rattle.std.proofs.Common.{◌≡◌, length, ℕ, ◌+◌, ◌-◌, ◌≤◌, max, List, [], ◌∷◌, Bool, false, not, ◌&&◌, ◌==◌, if◌then◌else◌, refl, sym, ap, ◌∙◌, append-nil, arith}
+use Rattle.std.proofs.Common.{◌≡◌, length, ℕ, ◌+◌, ◌-◌, ◌≤◌, max, drop, drop-drop, List, [], ◌∷◌, Bool, false, not, ◌&&◌, ◌==◌, if◌then◌else◌, refl, sym, ap, ◌∙◌, append-nil, arith}
 use Rattle.std.proofs.lemmas.List.{nil_from_length}
 use Rattle.std.proofs.lemmas.Bool.Decides.{nat_tests}
+use Rattle.std.specs.List.{prefix_len}
 use Rattle.json_text.specs.Tree.{Tree, spelling, IsGood, depth}
 use Rattle.json_text.specs.Value.{IsCompact}
-use Rattle.json_text.specs.Characters.{is_opening, is_closing}
+use Rattle.json_text.specs.Characters.{is_opening, is_closing, is_quiet}
 use Rattle.json_text.specs.Walk.{Place, outside, inside}
 use Rattle.scene_json.specs.inner.Passes.{behind_string}
 use Rattle.json_text.proofs.CallerLemmas.{Form, literal, quoted, listed, membered, Value-Form, Value-deeper, literal-compact, quote-compact, array-starts, object-starts}
@@ -31,6 +32,13 @@ inside-string escaped level most (b ∷ bs) = grind (arith, inside-string (b == 
 pub quote-step : (level most : ℕ) (bs : List ℕ) → level ≤ most
     → deepest outside level most (34 ∷ bs) ≡ deepest outside level most (behind_string false bs)
 quote-step level most bs h = grind (arith, inside-string false level (max most level) bs)
+
+-- nor do bytes that open and close nothing
+pub still-run : (level most : ℕ) (bs : List ℕ) → level ≤ most
+    → deepest outside level most (drop (prefix_len is_quiet bs) bs) ≡ deepest outside level most bs
+still-run level most [] h = refl
+still-run level most (b ∷ bs) h =
+    grind (arith, nat_tests, drop-drop (prefix_len is_quiet bs) 1 (b ∷ bs), still-run level most bs)
 
 -- the deepest place of a value's text
 pub deepest-depth : (t : Tree) → IsGood t → deepest outside 0 0 (spelling t) ≡ depth t
@@ -76,7 +84,7 @@ scalar-nests limit text v opens = elim (Value-Form v) [
 ]
 
 -- what a pass that counts brackets goes by at a string
-pub ruleset depth_steps = (quote-step, length-behind_string, depth_holds)
+pub ruleset depth_steps = (quote-step, still-run, length-behind_string, depth_holds)
 
 -- what tells how deep a value nests
 pub ruleset nesting_steps = (scalar-nests, Value-deeper)

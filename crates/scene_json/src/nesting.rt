@@ -1,11 +1,12 @@
 //! How deep a value is.
 
-ghost use Rattle.std.specs.Prelude.{◌≡◌, ◌↔◌, ℕ, List as Items, ◌∷◌, ◌≤◌, false, IsTrue};
+ghost use Rattle.std.specs.Prelude.{◌≡◌, ◌↔◌, ℕ, List as Items, ◌∷◌, ◌≤◌, drop, length, false, IsTrue};
+ghost use Rattle.std.specs.List.{prefix_len};
 ghost use Rattle.json_text.specs.Value.{IsCompact};
-ghost use Rattle.json_text.specs.Characters.{is_opening};
+ghost use Rattle.json_text.specs.Characters.{is_opening, is_quiet};
 ghost use Rattle.scene_json.specs.inner.Passes.{behind_string};
 
-use json_text::{Raw, run_end};
+use json_text::{Raw, quiet_end, run_end};
 
 /// How many brackets are open at once where most are: 0 for a number, a word or a string. It takes
 /// no memory.
@@ -18,15 +19,18 @@ pub fn depth_of(value: &Raw) -> u64
     let mut deepest: u64 = 0;
     let mut rest = value.as_bytes();
     while let Some((byte, others)) = rest.split_first() {
-        rest = others;
         match *byte {
             b'"' => rest = after_string(others),
             b'[' | b'{' => {
                 level += 1;
                 deepest = deepest.max(level);
+                rest = after_quiet(others);
             }
-            b']' | b'}' => level = level.saturating_sub(1),
-            _ => {}
+            b']' | b'}' => {
+                level = level.saturating_sub(1);
+                rest = after_quiet(others);
+            }
+            _ => rest = after_quiet(others),
         }
     }
     deepest
@@ -74,4 +78,13 @@ pub(crate) fn after_string(bytes: &[u8]) -> &[u8]
         }
         at = bytes.len().min(end + 2);
     }
+}
+
+/// What stands behind the bytes at the front that open and close nothing.
+#[inline(always)]
+pub(crate) fn after_quiet(bytes: &[u8]) -> &[u8]
+    ensures quiet { result.now ≡ drop (prefix_len is_quiet bytes.now) bytes.now }
+    ensures within { length result.now ≤ length bytes.now }
+{
+    &bytes[quiet_end(bytes, 0)..]
 }

@@ -3,7 +3,7 @@
 ghost use Rattle.std.specs.Prelude.{◌≡◌, ◌≢◌, ◌-◌, ◌<◌, ◌≤◌, ◌^◌, ◌↔◌, ℕ, List as Items, [], ◌∷◌, ◌++◌, length, take, drop, false, Some, option_copied, IsTrue, IfOk, IfSome, MatchOption, OnErr};
 ghost use Rattle.std.specs.Str.{IsUtf8};
 ghost use Rattle.std.specs.List.{AllByRecursion, prefix_len};
-ghost use Rattle.json_text.specs.Characters.{quote, ends_value, is_inert, is_quiet};
+ghost use Rattle.json_text.specs.Characters.{quote, ends_value, is_inert};
 ghost use Rattle.json_text.specs.Compact.{Member as Pair, array_text, object_text};
 ghost use Rattle.json_text.specs.Members.{pairs};
 ghost use Rattle.json_text.specs.Parts.{AreMembers};
@@ -11,9 +11,9 @@ ghost use Rattle.json_text.specs.Value.{IsCompact};
 ghost use Rattle.scene_json.specs.inner.Passes.{Compacted, EndsAt, StandHere, HaveEnded, GoesOn};
 ghost use Rattle.scene_json.specs.Walks.{AreLeft, AreBehind, AreTakenTo, IsTakenApart};
 
-use crate::nesting::after_string;
+use crate::nesting::{after_quiet, after_string};
 use board_base::{List, Stop};
-use json_text::{FEW_MEMBERS, Member, Raw, Text, inert_end, quiet_end, text_at};
+use json_text::{FEW_MEMBERS, Member, Raw, Text, inert_end, text_at};
 use std::alloc::{AllocError, Global};
 use std::marker::Model;
 
@@ -306,13 +306,22 @@ fn after_brackets(bytes: &[u8]) -> &[u8]
         if ends_value(*byte) && level == 0 {
             return rest;
         }
-        rest = others;
         match *byte {
             b'"' => rest = after_string(others),
-            b'[' | b'{' => level += 1,
-            b']' | b'}' => level -= 1,
+            b'[' | b'{' => {
+                level += 1;
+                rest = after_quiet(others);
+            }
+            b']' | b'}' if level > 1 => {
+                level -= 1;
+                rest = after_quiet(others);
+            }
+            b']' | b'}' => {
+                level -= 1;
+                rest = others;
+            }
             _ if level > 0 => rest = after_quiet(others),
-            _ => {}
+            _ => rest = others,
         }
     }
     rest
@@ -325,15 +334,6 @@ fn after_inert(bytes: &[u8]) -> &[u8]
     ensures within { length result.now ≤ length bytes.now }
 {
     &bytes[inert_end(bytes, 0)..]
-}
-
-/// What stands behind the bytes at the front that play no part in where a container ends.
-#[inline(always)]
-fn after_quiet(bytes: &[u8]) -> &[u8]
-    ensures quiet { result.now ≡ drop (prefix_len is_quiet bytes.now) bytes.now }
-    ensures within { length result.now ≤ length bytes.now }
-{
-    &bytes[quiet_end(bytes, 0)..]
 }
 
 /// Whether a value in a container may end before this byte.

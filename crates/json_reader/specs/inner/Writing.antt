@@ -5,7 +5,7 @@ use Rattle.std.specs.List.{AllByRecursion}
 use Rattle.json_text.specs.Characters.{is_space, is_blank, is_plain, quote}
 use Rattle.json_text.specs.Compact.{compact}
 use Rattle.json_text.specs.Walk.{Place, outside, inside, place_of, Quoted}
-use Rattle.json_text.specs.Tree.{Tree, IsGood, spelling}
+use Rattle.json_text.specs.Tree.{Tree, IsGood, IsWord, spelling}
 use Rattle.json_text.specs.Value.{Stands, extends_number}
 use Rattle.json_reader.specs.inner.Drafts.{Drafted, fresh, grown, named, parted, closed, IsWhole}
 use Rattle.json_reader.specs.inner.Machine.{Bracket, JsonFault, Machine, Mode, state, ended, refused, top, step, fault_of}
@@ -118,11 +118,17 @@ deed_at w b = deed w.place w.here.level b
 abbrev pub ground_of : Writer → Ground
 ground_of w = if w.quoted then ground.Quoted else ground.Between
 
+-- They are a string in which no character is escaped.
+pub record IsPlainString (bytes : List ℕ) : Type 0 where
+  pub text : List ℕ
+  pub plain : AllByRecursion (λ b. is_plain b ≡ true) text
+  pub is : bytes ≡ 34 ∷ (text ++ 34 ∷ [])
+
 -- These bytes are taken together on this ground.
 abbrev pub AreAlike : Ground → List ℕ → Type 0
 AreAlike ground.Quoted bytes = AllByRecursion (λ b. is_plain b ≡ true) bytes
 AreAlike ground.Between bytes = AllByRecursion (λ b. is_space b ≡ true) bytes
-    ⊎ AllByRecursion (λ b. extends_number b ≡ true) bytes
+    ⊎ (AllByRecursion (λ b. extends_number b ≡ true) bytes ⊎ (IsPlainString bytes ⊎ IsWord bytes))
 
 -- the writer with the bytes before an offset copied
 abbrev pub copied : List ℕ → ℕ → Writer → Writer

@@ -1,13 +1,6 @@
 use Rattle.std.proofs.Common.{refl, arith}
 use Rattle.json_reader.proofs.reader.take_next.Goals as goal
 
-pub finish_string-requires : goal.finish_string-requires
-finish_string-requires c = (
-  c.requires.read.0,
-  c.in_ok-put-in-34.ensures c.requires.read.0 c.args.machine.now c.requires.read.1
-      (rw c.in-34.is (c.if-not-begin_string.ensures.taken refl)),
-)
-
 pub pass_number-requires-clause-fits : goal.pass_number-requires-clause-fits
 pass_number-requires-clause-fits c =
     (c.in_ok-put-in-45-to-57.ensures c.requires.read.0 c.args.machine.now c.requires.read.1
@@ -19,11 +12,4 @@ returns-in_ok-put-in-44 c = (
   omega (arith, c.requires.within),
   λ from read. c.in_ok-put-in-44.ensures from c.args.machine.now read
       (rw c.in-44.is (c.if-not-separate.ensures.taken refl)),
-)
-
-pub returns-in_ok-put-in_default : goal.returns-in_ok-put-in_default
-returns-in_ok-put-in_default c = (
-  omega arith,
-  omega (arith, c.requires.within),
-  λ from read. c.in_ok-put-in_default.ensures from c.args.machine.now read (c.if-not-follow.ensures.taken refl),
 )

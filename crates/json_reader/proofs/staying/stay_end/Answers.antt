@@ -17,8 +17,8 @@ pub returns-in-Between-Number-Whole : goal.returns-in-Between-Number-Whole
 returns-in-Between-Number-Whole c = record {
   within = passed_within is_digit _ _ _ c.requires c.skip_digits.ensures;
   stays = passed_all is_digit _ (λ b is. grind (arith, nat_tests)) _ _ _ c.skip_digits.ensures;
-  alike = rw c.in-Between-Number-Whole.is-0 (inr (passed_all is_digit (λ b. extends_number b ≡ true)
-      (λ b is. grind (arith, nat_tests)) _ _ _ c.skip_digits.ensures));
+  alike = rw c.in-Between-Number-Whole.is-0 (inr (inl (passed_all is_digit (λ b. extends_number b ≡ true)
+      (λ b is. grind (arith, nat_tests)) _ _ _ c.skip_digits.ensures)));
 }
 
 pub returns-in-Between-Value : goal.returns-in-Between-Value
