@@ -46,8 +46,8 @@ struct Around {
 }
 
 impl Kept {
-    /// With an element whose id no one has, if its place is found. Otherwise, and for want of
-    /// memory, what is kept is given up.
+    /// With an element whose id no one has, if its place is found and not much is near it.
+    /// Otherwise, and for want of memory, what is kept is given up.
     pub(crate) fn come(self, e: &SharedElement) -> Result<Option<Kept>, AllocError>
         requires { is_live e.now ≡ true }
         ensures { IfOk result (λ found. IfSome found (HaveReplaced self (e.now ∷ []))) }
@@ -87,8 +87,8 @@ impl Kept {
         Ok(Some(joined(live, shown, table, unsettled)))
     }
 
-    /// Without the element of an id, if its place is found. Otherwise, and for want of memory, what
-    /// is kept is given up.
+    /// Without the element of an id, if its place is found and not much is near it. Otherwise, and
+    /// for want of memory, what is kept is given up.
     pub(crate) fn go(self, id: &Text) -> Result<Option<Kept>, AllocError>
         ensures { IfOk result (λ found. IfSome found (HasGone self id.now)) }
     {

@@ -124,8 +124,8 @@ impl LiveView {
     }
 
     /// Follows what is stored of the ids of these elements, and tells whether it is found near
-    /// their places: those that keep their places at once, others one after the other, if they are
-    /// few. For want of memory nothing changes.
+    /// their places, with not much near it: those that keep their places at once, others one after
+    /// the other, if they are few. For want of memory nothing changes.
     pub(crate) fn follow(&mut self, news: &Vec<SharedElement>) -> Result<bool, AllocError>
         requires { are_rising (ids_of news.now.items) ≡ true }
         ensures new { result ≡ Ok true → HaveFollowed self.old news.now.items self.new }
@@ -141,8 +141,9 @@ impl LiveView {
         self.follow_each(news)
     }
 
-    /// Lets elements take the places of those of their ids, if none is deleted and each is held
-    /// with the same index, and tells whether they do. For want of memory nothing changes.
+    /// Lets elements take the places of those of their ids, if none is deleted, each is held with
+    /// the same index and not much is near them, and tells whether they do. For want of memory
+    /// nothing changes.
     fn replace(&mut self, news: &Vec<SharedElement>) -> Result<bool, AllocError>
         requires { are_rising (ids_of news.now.items) ≡ true }
         ensures new { result ≡ Ok true → HaveFollowed self.old news.now.items self.new }
@@ -200,7 +201,7 @@ fn redrawn_twin(twin: Option<Kept>, new: &Element) -> Option<Kept>
     }
 }
 
-/// The twin after it followed these elements, unless it is lost for want of memory.
+/// The twin after it followed these elements, unless it is given up, or lost for want of memory.
 fn followed_twin(twin: Option<Kept>, news: &Vec<SharedElement>) -> Option<Kept>
     requires { are_rising (ids_of news.now.items) ≡ true }
     ensures followed { IfSome result

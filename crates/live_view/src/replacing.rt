@@ -32,8 +32,8 @@ use links::{LinkRow, LinkTable, rows_of};
 use std::alloc::{AllocError, Global};
 
 impl Kept {
-    /// Lets elements take the places of those of their ids, if each is held with the same index,
-    /// and tells whether they do. For want of memory nothing changes.
+    /// Lets elements take the places of those of their ids, if each is held with the same index and
+    /// not much is near them, and tells whether they do. For want of memory nothing changes.
     pub(crate) fn replace_all(&mut self, news: &Vec<SharedElement>) -> Result<bool, AllocError>
         requires ordered { are_rising (ids_of news.now.items) ≡ true }
         requires live { list_all is_live news.now.items ≡ true }

@@ -31,8 +31,8 @@ impl Kept {
         kept.follow_each(news)
     }
 
-    /// Replaces elements, if none is deleted and each is held with the same index. For want of
-    /// memory nothing changes.
+    /// Replaces elements, if none is deleted, each is held with the same index and not much is near
+    /// them. For want of memory nothing changes.
     pub(crate) fn replace_live(&mut self, news: &Vec<SharedElement>) -> Result<bool, AllocError>
         requires { are_rising (ids_of news.now.items) ≡ true }
         ensures new { result ≡ Ok true → HaveFollowed self.old news.now.items self.new }
@@ -46,8 +46,8 @@ impl Kept {
         }
     }
 
-    /// After it followed elements one after the other, if all are found near their places.
-    /// Otherwise, and for want of memory, what is kept is given up.
+    /// After it followed elements one after the other, if all are found near their places, with not
+    /// much near them. Otherwise, and for want of memory, what is kept is given up.
     pub(crate) fn follow_each(self, news: &Vec<SharedElement>) -> Result<Option<Kept>, AllocError>
         requires { are_rising (ids_of news.now.items) ≡ true }
         ensures { IfOk result (λ found. IfSome found (HaveFollowed self news.now.items)) }
