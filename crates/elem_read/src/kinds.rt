@@ -98,8 +98,7 @@ pub(crate) fn is_image(kind: &Kind) -> bool
 }
 
 /// The members that are no header members of the kind, in their order, to be shared. They are kept
-/// as long as the element, so they move to a place without room beside them; the one in which they
-/// were read serves the next element.
+/// as long as the element, so no room is left beside them.
 pub(crate) fn others(
     alloc: Global,
     members: List<Member>,
@@ -110,9 +109,8 @@ pub(crate) fn others(
 {
     let mut others = members.into_vec();
     drop_headers(&mut others, kind);
-    let mut kept = Vec::with_capacity(alloc, others.len())?;
-    kept.append(&mut others)?;
-    SharedMembers::new(alloc, List::from_vec(kept))
+    others.shrink_to_fit();
+    SharedMembers::new(alloc, List::from_vec(others))
 }
 
 /// Drops the header members of the kind. Most kinds have only those that all have.

@@ -1,5 +1,5 @@
 -- How a pass over a text counts the brackets that are open at once.
-use Rattle.std.proofs.Common.{◌≡◌, length, ℕ, ◌+◌, ◌-◌, ◌≤◌, max, drop, drop-drop, List, [], ◌∷◌, Bool, false, not, ◌&&◌, ◌==◌, if◌then◌else◌, refl, sym, ap, ◌∙◌, append-nil, arith}
+use Rattle.std.proofs.Common.{◌≡◌, length, ℕ, ◌+◌, ◌-◌, ◌<◌, ◌≤◌, max, drop, drop-drop, List, [], ◌∷◌, Bool, true, false, not, ◌&&◌, ◌==◌, if◌then◌else◌, refl, sym, ap, ◌∙◌, append-nil, arith}
 use Rattle.std.proofs.lemmas.List.{nil_from_length}
 use Rattle.std.proofs.lemmas.Bool.Decides.{nat_tests}
 use Rattle.std.specs.List.{prefix_len}
@@ -39,6 +39,11 @@ pub still-run : (level most : ℕ) (bs : List ℕ) → level ≤ most
 still-run level most [] h = refl
 still-run level most (b ∷ bs) h =
     grind (arith, nat_tests, drop-drop (prefix_len is_quiet bs) 1 (b ∷ bs), still-run level most bs)
+
+-- nor do a closing bracket and one that is opened behind a comma
+pub next-deep : (b level most : ℕ) (bs : List ℕ) → is_closing b ≡ true → 0 < level → level ≤ most
+    → deepest outside level most (b ∷ 44 ∷ 91 ∷ bs) ≡ deepest outside level most bs
+next-deep b level most bs closes some h = grind (arith, nat_tests)
 
 -- the deepest place of a value's text
 pub deepest-depth : (t : Tree) → IsGood t → deepest outside 0 0 (spelling t) ≡ depth t
@@ -84,7 +89,7 @@ scalar-nests limit text v opens = elim (Value-Form v) [
 ]
 
 -- what a pass that counts brackets goes by at a string
-pub ruleset depth_steps = (quote-step, still-run, length-behind_string, depth_holds)
+pub ruleset depth_steps = (quote-step, still-run, next-deep, length-behind_string, depth_holds)
 
 -- what tells how deep a value nests
 pub ruleset nesting_steps = (scalar-nests, Value-deeper)

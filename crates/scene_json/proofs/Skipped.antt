@@ -1,9 +1,9 @@
 -- How a pass over a text finds the end of a value in a container.
-use Rattle.std.proofs.Common.{◌≡◌, ℕ, ◌+◌, ◌<◌, max, drop, drop-drop, List, [], ◌∷◌, ◌++◌, Bool, false, not, ◌&&◌, ◌==◌, if◌then◌else◌, refl, sym, ap, ◌∙◌, arith}
+use Rattle.std.proofs.Common.{◌≡◌, ℕ, ◌+◌, ◌<◌, max, drop, drop-drop, List, [], ◌∷◌, ◌++◌, Bool, true, false, not, ◌&&◌, ◌==◌, if◌then◌else◌, refl, sym, ap, ◌∙◌, arith}
 use Rattle.std.proofs.lemmas.Bool.Decides.{nat_tests}
 use Rattle.std.specs.List.{prefix_len}
 use Rattle.json_text.specs.Tree.{depth}
-use Rattle.json_text.specs.Characters.{ends_value, is_inert, is_quiet}
+use Rattle.json_text.specs.Characters.{ends_value, is_closing, is_inert, is_quiet}
 use Rattle.json_text.specs.Walk.{Place, outside, inside}
 use Rattle.scene_json.specs.Passes.{IsEnd}
 use Rattle.scene_json.specs.inner.Passes.{behind_string, Compacted}
@@ -38,6 +38,11 @@ quiet-run level [] some = refl
 quiet-run level (b ∷ bs) some =
     grind (arith, nat_tests, drop-drop (prefix_len is_quiet bs) 1 (b ∷ bs), quiet-run level bs)
 
+-- nor do a closing bracket and one that is opened behind a comma, inside others
+pub next-opens : (b level : ℕ) (bs : List ℕ) → is_closing b ≡ true → 1 < level
+    → skipped outside level (b ∷ 44 ∷ 91 ∷ bs) ≡ skipped outside level bs
+next-opens b level bs closes some = grind (arith, nat_tests)
+
 pub end-step : (rest : List ℕ) → IsEnd rest → skipped outside 0 rest ≡ rest
 end-step [] h = absurd h
 end-step (b ∷ bs) h = rw h refl
@@ -57,4 +62,4 @@ skipped-value bytes found rest h =
     ∙ tree-steps pass v.tree 0 0 (max 0 (0 + depth v.tree)) rest v.good (omega arith) refl ∙ end-step rest h.ends
 
 -- what a pass that looks for the end of a value goes by at a string
-pub ruleset skip_steps = (inside-string, inert-run, quiet-run, length-behind_string)
+pub ruleset skip_steps = (inside-string, inert-run, quiet-run, next-opens, length-behind_string)

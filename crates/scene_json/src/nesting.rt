@@ -1,6 +1,6 @@
 //! How deep a value is.
 
-ghost use Rattle.std.specs.Prelude.{◌≡◌, ◌↔◌, ℕ, List as Items, ◌∷◌, ◌≤◌, drop, length, false, IsTrue};
+ghost use Rattle.std.specs.Prelude.{◌≡◌, ◌↔◌, ℕ, List as Items, ◌∷◌, ◌≤◌, drop, length, false, IfSome, IsTrue};
 ghost use Rattle.std.specs.List.{prefix_len};
 ghost use Rattle.json_text.specs.Value.{IsCompact};
 ghost use Rattle.json_text.specs.Characters.{is_opening, is_quiet};
@@ -26,10 +26,13 @@ pub fn depth_of(value: &Raw) -> u64
                 deepest = deepest.max(level);
                 rest = after_quiet(others);
             }
-            b']' | b'}' => {
-                level = level.saturating_sub(1);
-                rest = after_quiet(others);
-            }
+            b']' | b'}' => match after_opened(others) {
+                Some(inner) if level > 0 => rest = after_quiet(inner),
+                _ => {
+                    level = level.saturating_sub(1);
+                    rest = after_quiet(others);
+                }
+            },
             _ => rest = after_quiet(others),
         }
     }
@@ -87,4 +90,16 @@ pub(crate) fn after_quiet(bytes: &[u8]) -> &[u8]
     ensures within { length result.now ≤ length bytes.now }
 {
     &bytes[quiet_end(bytes, 0)..]
+}
+
+/// What stands behind a comma and the bracket of an array, if they are at the front: behind a
+/// closing bracket, as between points, they open as many as it closes.
+#[inline(always)]
+pub(crate) fn after_opened(bytes: &[u8]) -> Option<&[u8]>
+    ensures { IfSome result (λ rest. bytes.now ≡ 44 ∷ 91 ∷ rest.now) }
+{
+    match bytes {
+        [b',', b'[', rest @ ..] => Some(rest),
+        _ => None,
+    }
 }

@@ -11,7 +11,7 @@ ghost use Rattle.json_text.specs.Value.{IsCompact};
 ghost use Rattle.scene_json.specs.inner.Passes.{Compacted, EndsAt, StandHere, HaveEnded, GoesOn};
 ghost use Rattle.scene_json.specs.Walks.{AreLeft, AreBehind, AreTakenTo, IsTakenApart};
 
-use crate::nesting::{after_quiet, after_string};
+use crate::nesting::{after_opened, after_quiet, after_string};
 use board_base::{List, Stop};
 use json_text::{FEW_MEMBERS, Member, Raw, Text, inert_end, text_at};
 use std::alloc::{AllocError, Global};
@@ -312,10 +312,13 @@ fn after_brackets(bytes: &[u8]) -> &[u8]
                 level += 1;
                 rest = after_quiet(others);
             }
-            b']' | b'}' if level > 1 => {
-                level -= 1;
-                rest = after_quiet(others);
-            }
+            b']' | b'}' if level > 1 => match after_opened(others) {
+                Some(inner) => rest = after_quiet(inner),
+                None => {
+                    level -= 1;
+                    rest = after_quiet(others);
+                }
+            },
             b']' | b'}' => {
                 level -= 1;
                 rest = others;
