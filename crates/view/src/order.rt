@@ -26,13 +26,13 @@ pub(crate) fn sort(spots: &mut Vec<SortedSpot<'_>>) -> Result<(), AllocError>
         ≡ in_scene_order (elements_of spots.old.items)) }
     ensures permutation { IsPermutation spots.old.items spots.new.items }
 {
-    spots.sort_by_cached_key(|spot| front_of(spot.element))?;
+    spots.sort_by_cached_key(|spot| key_front(spot.element))?;
     spots.sort_by(|spot, other| scene_order(spot.element, other.element))
 }
 
 /// The first 16 bytes of an element's key as one number, the first of them the highest, with zeros
 /// behind a shorter key; the greatest number where there is no key.
-fn front_of(e: &Element) -> u128 {
+fn key_front(e: &Element) -> u128 {
     let Some(key) = &e.index else {
         return u128::MAX;
     };
