@@ -13,8 +13,8 @@ use elem_store::Store;
 use json_text::Text;
 use std::cmp::Ordering;
 
-/// Elements are few if all that is shown is more than so many times as much: then each is looked up,
-/// and else there is one walk over what is shown.
+/// Elements are few if all that is shown is more than so many times as much: then each is looked
+/// up, and else there is one walk over what is shown.
 const FEW: usize = 32;
 
 /// Whether so many elements are few beside all that are shown.

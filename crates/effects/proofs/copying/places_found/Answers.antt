@@ -10,8 +10,8 @@ loop-id-init c =
 pub loop-id-preserved : goal.loop-id-preserved
 loop-id-preserved c =
     places-more c.args.ids.now c.args.lookup.now.shown.now c.loop-id.places c.insert.new.self c.loop-id.id-iterator
-    c.next.new.self c.in-Some.id.now c.in-Some-found_place.i (seen-distinct c.args.lookup.now c.requires) c.loop-id.invariant
-    c.in-Some.ensures.steps c.in-Some-found_place.ensures c.in_ok-insert.ensures.updates
+    c.next.new.self c.in-Some.id.now c.in-Some-found_place.i (seen-distinct c.args.lookup.now c.requires)
+    c.loop-id.invariant c.in-Some.ensures.steps c.in-Some-found_place.ensures c.in_ok-insert.ensures.updates
 
 pub returns : goal.returns
 returns c =

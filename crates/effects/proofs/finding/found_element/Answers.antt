@@ -11,5 +11,6 @@ of-copied (Some e) o is = sym is
 
 pub returns : goal.returns
 returns c =
-    of-copied c.element_at.result _ (c.element_at.ensures ∙ at-place c.args.lookup.now.shown.now c.in_ok-i.i c.args.id.now
+    of-copied c.element_at.result _
+    (c.element_at.ensures ∙ at-place c.args.lookup.now.shown.now c.in_ok-i.i c.args.id.now
     (seen-distinct c.args.lookup.now c.requires) c.in_ok-i.ensures)
