@@ -1,5 +1,5 @@
 -- What is stored is shown as one text, and as some text where it is whole.
-use Rattle.std.proofs.Common.{◌≡◌, ℕ, List, [], ◌++◌, All, true, refl, sym, ap, subst, ◌∙◌}
+use Rattle.std.proofs.Common.{◌≡◌, ℕ, List, ◌++◌, All, true, refl, sym, ap, subst, ◌∙◌}
 use Rattle.std.proofs.lemmas.List.Elements.{All-weaker}
 use Rattle.json_text.specs.Members.{pairs}
 use Rattle.scene_json.specs.Named.{HaveRisingNames}

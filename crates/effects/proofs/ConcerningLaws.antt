@@ -4,30 +4,27 @@ use Rattle.std.specs.BTreeMap.{BTreeMap, get}
 use Rattle.std.specs.BTreeSet.{BTreeSet, contains, Updates}
 use Rattle.std.specs.Cmp.Lexicographic.{slice_cmp, nat_list_eq_equiv, texts_ties}
 use Rattle.std.specs.List.{list_any}
-use Rattle.std.specs.Option.{option_map_or, unwrap_or}
+use Rattle.std.specs.Option.{unwrap_or}
 use Rattle.std.specs.Ordering.{eq_by_cmp}
 use Rattle.std.proofs.lemmas.Map.Text.{is_eq-slice_cmp}
 use Rattle.std.proofs.lemmas.Bool.{cases_Bool, false≢true, or_cases, or_parts, or_left, or_right, and_left, and_parts, cond-false}
 use Rattle.std.proofs.lemmas.List.{take_more}
 use Rattle.std.proofs.lemmas.List.Folds.{list_any-append}
 use Rattle.json_text.proofs.CallerLemmas.{bytes_eq-true, bytes_eq-same, bytes_eq-flip}
-use Rattle.frac_keys.specs.Rising.{are_rising}
 use Rattle.elem.specs.declared.parts.BoundRef.{BoundRef}
 use Rattle.elem.specs.declared.kind.Role.{Role}
 use Rattle.elem.specs.declared.kind.Role.TheVariants as roles
 use Rattle.elem.specs.ElementValue.{ElementValue}
 use Rattle.elem.specs.Order.{has_id}
 use Rattle.elem.specs.Listings.{same_listing_entry, same_listing_entry-same}
-use Rattle.elem_store.specs.Updates.{element_of, ids_of, is_among}
+use Rattle.elem_store.specs.Updates.{element_of, is_among}
 use Rattle.elem_store.proofs.CallerLemmas.{Contains-cons, Contains-filter, Contains-head, find-Some, member}
-use Rattle.links.specs.declared.rows.LinkRow.{LinkRow}
 use Rattle.links.specs.Entries.{lists}
 use Rattle.links.specs.Names.{is_id, is_arrow, is_text, target_of, end_names, has_end_at, names_container}
 use Rattle.links.specs.Rows.{is_for, namer_of}
 use Rattle.links.specs.Steps.{names_id}
 use Rattle.links.specs.Tables.{with_listing_entry}
-use Rattle.links.proofs.CallerLemmas.{list_any-from, list_any-map, list_any-filter}
-use Rattle.view.specs.Kept.{HaveRowsOf}
+use Rattle.links.proofs.CallerLemmas.{list_any-from}
 use Rattle.view.specs.Shown.{is_live, live_elements}
 use Rattle.view.proofs.CallerLemmas.{namer-among}
 use Rattle.effects.specs.declared.effect.Effect.{Effect}

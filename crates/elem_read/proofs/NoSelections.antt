@@ -1,6 +1,5 @@
 -- The value that is read, its members and the restored ones.
-use Rattle.std.proofs.Common.{◌≡◌, ◌≢◌, ℕ, List, [], ◌∷◌, Some, All, subst, refl, sym, ap, ◌∙◌, bytes_eq, codes, lit≤, Option, None}
-use Rattle.std.specs.List.{AllByRecursion}
+use Rattle.std.proofs.Common.{◌≡◌, ◌≢◌, ℕ, List, Some, All, subst, refl, sym, ap, ◌∙◌, bytes_eq, codes, lit≤}
 use Rattle.std.proofs.lemmas.Bool.{both_ways}
 use Rattle.std.proofs.lemmas.List.Elements.{recursion_from_All}
 use Rattle.json_text.specs.Compact.{Member as Pair, object_text}

@@ -1,5 +1,5 @@
 -- An element whose further members change stays an element.
-use Rattle.std.proofs.Common.{◌≡◌, Bool, false, List, ℕ, Some, refl, IsUtf8}
+use Rattle.std.proofs.Common.{◌≡◌, false, List, ℕ, Some, refl, IsUtf8}
 use Rattle.std.specs.List.{AllByRecursion}
 use Rattle.json_text.specs.Value.{IsCompact}
 use Rattle.elem.specs.ElementValue.{ElementValue}

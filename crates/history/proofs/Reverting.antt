@@ -1,5 +1,5 @@
 -- What the inverse of a part makes of an element is what undoing its pair makes of it.
-use Rattle.std.proofs.Common.{◌≡◌, true, []}
+use Rattle.std.proofs.Common.{◌≡◌, true}
 use Rattle.std.proofs.lemmas.Bool.{true_from_ne_false}
 use Rattle.elem.specs.ElementValue.{ElementValue}
 use Rattle.elem.specs.Facts.{IsElement}

@@ -1,6 +1,6 @@
 -- States between changes, undos and redos: what was stored after each change, and the ways to it.
-use Rattle.std.proofs.Common.{◌≡◌, ◌≤◌, ◌<◌, ℕ, zero, suc, ◌+◌, ◌-◌, Bool, true, false, List, [], ◌∷◌, length, take, filter, Option, Some, None, Ok, Contains, refl, sym, ap, ◌∙◌, subst, arith}
-use Rattle.std.proofs.lemmas.Bool.{cond-false, and_right}
+use Rattle.std.proofs.Common.{◌≡◌, ◌≤◌, ◌<◌, ℕ, zero, suc, ◌+◌, ◌-◌, true, false, List, [], ◌∷◌, length, take, Option, Some, None, Ok, refl, sym, ap, ◌∙◌, subst, arith}
+use Rattle.std.proofs.lemmas.Bool.{and_right}
 use Rattle.std.proofs.lemmas.Option.{same_Some}
 use Rattle.std.proofs.lemmas.List.{take_all}
 use Rattle.frac_keys.specs.Rising.{are_rising}
@@ -9,7 +9,7 @@ use Rattle.elem.specs.ElementValue.{ElementValue}
 use Rattle.elem.specs.Order.{unstamped}
 use Rattle.elem.specs.Said.{AreElements}
 use Rattle.elem_store.specs.Updates.{element_of, ids_of}
-use Rattle.elem_store.proofs.CallerLemmas.{Contains-head, Contains-cons, member}
+use Rattle.elem_store.proofs.CallerLemmas.{member}
 use Rattle.delta.specs.Pairs.{Pair, pair_with, pairs_from}
 use Rattle.delta.specs.Parts.{counted}
 use Rattle.history.specs.declared.planned.Direction.TheVariants.{Undo, Redo}

@@ -9,7 +9,7 @@ use Rattle.room_core.specs.Closing.{LeadToClose}
 use Rattle.room_core.specs.Rooms.{RoomState, Happening, Joined, Heard, Left, Nothing, IsHeardAs, joined_after, texts_of, text_for_each, without}
 use Rattle.room_core.specs.Serving.{Serving, Round, IsRound, AreRounds, EndsBy, IsServed, at_start, end_of, idles_after, serving_after, serving_at, step_count}
 use Rattle.board_ends.specs.Ends.{LinksEnd}
-use Rattle.room_core.specs.Told.{Try, Tells, links_gone, texts_lost, texts_tried}
+use Rattle.room_core.specs.Told.{Try, links_gone, texts_lost, texts_tried}
 use Rattle.room_core.specs.declared.limits.RoomLimits.{RoomLimits}
 use Rattle.room_core.specs.declared.limits.ServeEnd.{ServeEnd}
 use Rattle.room_core.specs.declared.limits.ServeEnd.TheVariants.{AllClosed, Idle as IdleEnd, LinkFault, LinksFull, EventsFull, Memory}

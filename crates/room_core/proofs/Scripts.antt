@@ -1,9 +1,9 @@
 -- Every script of events has a trace.
-use Rattle.std.proofs.Common.{◌≡◌, ◌≢◌, ℕ, zero, suc, ◌+◌, ◌<◌, ◌≤◌, Bool, true, false, not, List, [], ◌∷◌, ◌++◌, map, flat_map, drop, length, Option, Some, None, option_to_list, MatchBool, Result, inl, inr, refl, sym, ap, ap₂, subst, ◌∙◌, append-nil, arith}
+use Rattle.std.proofs.Common.{◌≡◌, ◌≢◌, ℕ, zero, suc, ◌+◌, ◌<◌, ◌≤◌, Bool, true, false, not, List, [], ◌∷◌, ◌++◌, drop, length, Option, Some, None, option_to_list, MatchBool, Result, inl, inr, refl, sym, ap, ap₂, subst, ◌∙◌, append-nil, arith}
 use Rattle.std.proofs.lemmas.Bool.{cases_lt}
 use Rattle.frac_keys.specs.Rising.{are_rising}
 use Rattle.elem.specs.ElementValue.{ElementValue}
-use Rattle.elem_store.specs.Updates.{AreStored, ids_of, stored_of}
+use Rattle.elem_store.specs.Updates.{ids_of, stored_of}
 use Rattle.elem_store.proofs.CallerLemmas.{AreStored-itself, joined_leader, stored-append, stored-exist}
 use Rattle.board_ends.specs.Events.{opening_of}
 use Rattle.board_ends.specs.Script.{next_event}
@@ -14,7 +14,7 @@ use Rattle.room_msg.specs.declared.fault.MsgFault.{MsgFault}
 use Rattle.room_msg.specs.declared.message.Message.{Message}
 use Rattle.room_core.specs.Rooms.{RoomState, Happening, Joined, Heard, Left, Nothing, HaveTaken, IsHeardAs, is_among, joined_after, taken_of, texts_of, without}
 use Rattle.room_core.specs.Scripts.{HasTrace, AreLostBy, first_events, links_told}
-use Rattle.room_core.specs.Serving.{Serving, Round, IsRound, AreRounds, EndsBy, IsServed, at_start, end_of, serving_after, serving_at}
+use Rattle.room_core.specs.Serving.{Serving, Round, IsRound, AreRounds, EndsBy, at_start, end_of, serving_after, serving_at}
 use Rattle.room_core.specs.Told.{Try, Tells, links_gone, texts_lost, texts_sent, texts_tried}
 use Rattle.room_core.specs.declared.limits.RoomLimits.{RoomLimits}
 use Rattle.room_core.specs.declared.limits.ServeEnd.{ServeEnd}

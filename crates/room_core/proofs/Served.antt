@@ -1,5 +1,5 @@
 -- How a room that is served ends, event by event.
-use Rattle.std.proofs.Common.{◌≡◌, ℕ, ◌+◌, ◌-◌, ◌*◌, ◌<◌, ◌≤◌, Bool, true, false, cond, ◌&&◌, List, [], ◌∷◌, ◌++◌, Option, Some, None, nat_lt, nat_le, refl, sym, ap, subst, ◌∙◌, append-nil, append_assoc, Result, Ok, Err, is_err, OnOk, OnErr, arith}
+use Rattle.std.proofs.Common.{◌≡◌, ℕ, ◌+◌, ◌-◌, ◌*◌, ◌<◌, ◌≤◌, Bool, true, false, cond, ◌&&◌, List, [], ◌∷◌, Option, Some, None, nat_lt, nat_le, refl, sym, ap, subst, ◌∙◌, append-nil, append_assoc, Result, Ok, Err, is_err, OnOk, OnErr, arith}
 use Rattle.std.proofs.lemmas.Bool.{leb-false}
 use Rattle.std.proofs.lemmas.Nat.{mul-add-lt}
 use Rattle.board_ends.specs.Events.{opening_of}

@@ -1,5 +1,5 @@
 -- A room that is served has one trace.
-use Rattle.std.proofs.Common.{◌≡◌, ◌≢◌, ℕ, ◌+◌, ◌≤◌, Bool, true, false, List, [], ◌∷◌, ◌++◌, map, flat_map, Option, Some, None, is_some, option_to_list, refl, sym, ap, ap₂, subst, ◌∙◌, append_assoc, arith}
+use Rattle.std.proofs.Common.{◌≡◌, ◌≢◌, ℕ, ◌+◌, ◌≤◌, Bool, true, false, List, [], ◌∷◌, ◌++◌, Option, Some, None, is_some, option_to_list, refl, sym, ap, ap₂, subst, ◌∙◌, append_assoc, arith}
 use Rattle.frac_keys.specs.Rising.{are_rising}
 use Rattle.elem_store.specs.Updates.{ids_of}
 use Rattle.elem_store.proofs.CallerLemmas.{AreStored-itself, store-unique}
@@ -8,7 +8,7 @@ use Rattle.board_ends.specs.Events.{opening_of}
 use Rattle.board_ends.specs.declared.links.LinkEvent.{LinkEvent}
 use Rattle.board_ends.specs.declared.links.LinkEvent.TheVariants.{Opened}
 use Rattle.room_core.specs.Closing.{TellAll}
-use Rattle.room_core.specs.Rooms.{RoomState, Happening, IsHeardAs, IsRoomAfter, joined_after, taken_of, texts_of, without}
+use Rattle.room_core.specs.Rooms.{RoomState, Happening, IsHeardAs, IsRoomAfter, taken_of, texts_of, without}
 use Rattle.room_core.specs.Serving.{Serving, Round, IsRound, AreRounds, EndsBy, IsServed, end_of, serving_after, serving_at}
 use Rattle.room_core.specs.Told.{Try, links_gone, texts_lost, texts_tried}
 use Rattle.room_core.specs.declared.limits.RoomLimits.{RoomLimits}

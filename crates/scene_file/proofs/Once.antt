@@ -1,5 +1,5 @@
 -- A scene and a fault are determined by the text, and a joined head by the heads.
-use Rattle.std.proofs.Common.{◌≡◌, ℕ, List, [], Option, Some, None, true, codes, drop, refl, sym, ap, ap₂, ◌∙◌, subst}
+use Rattle.std.proofs.Common.{◌≡◌, ℕ, List, Option, Some, None, true, codes, drop, refl, sym, ap, ap₂, ◌∙◌, subst}
 use Rattle.json_text.specs.Characters.{is_blank}
 use Rattle.json_text.specs.Compact.{Member as Pair}
 use Rattle.json_text.specs.Members.{pairs}

@@ -8,7 +8,7 @@ use Rattle.json_text.specs.Value.{IsCompact}
 use Rattle.json_text.specs.Characters.{is_opening, is_closing, is_quiet}
 use Rattle.json_text.specs.Walk.{Place, outside, inside}
 use Rattle.scene_json.specs.inner.Passes.{behind_string}
-use Rattle.json_text.proofs.CallerLemmas.{Form, literal, quoted, listed, membered, Value-Form, Value-deeper, literal-compact, quote-compact, array-starts, object-starts}
+use Rattle.json_text.proofs.CallerLemmas.{literal, quoted, listed, membered, Value-Form, Value-deeper, literal-compact, quote-compact, array-starts, object-starts}
 use Rattle.scene_json.proofs.Behind.{length-behind_string}
 use Rattle.scene_json.proofs.Passing.{IsPass, tree-steps}
 

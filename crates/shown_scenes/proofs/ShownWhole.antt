@@ -1,11 +1,10 @@
 -- Elements that are whole stay so as they are shown.
 use Rattle.std.proofs.Common.{ℕ, List, [], ◌∷◌, ◌++◌, Bool, cond, not, Option, Some, None, IfSome, All, find, bytes_eq, filter, map, refl, inl, IsUtf8}
 use Rattle.std.specs.List.{AllByRecursion}
-use Rattle.std.specs.Option.{option_or, option_map}
+use Rattle.std.specs.Option.{option_or}
 use Rattle.std.proofs.lemmas.Bool.{cond_both}
 use Rattle.std.proofs.lemmas.List.Elements.{All-from_recursion, recursion_from_All, All-nil, All-cons, All-head, All-tail, All-append, All-weaker, All-map, All-filter}
 use Rattle.std.proofs.lemmas.List.Sorted.{All-permutation}
-use Rattle.index_repair.specs.Repair.{repaired}
 use Rattle.json_text.specs.FirstOccurrences as texts
 use Rattle.elem.specs.declared.parts.BoundRef.{BoundRef}
 use Rattle.elem.specs.ElementValue.{ElementValue}

@@ -1,9 +1,9 @@
 -- Which elements differ outside the stamp.
-use Rattle.std.proofs.Common.{◌≡◌, ◌≢◌, ℕ, Bool, true, false, cond, not, ◌&&◌, List, [], ◌∷◌, map, filter, Option, Some, None, Contains, bytes_eq, refl, sym, ap, ◌∙◌, subst, lit≤}
+use Rattle.std.proofs.Common.{◌≡◌, ◌≢◌, ℕ, Bool, true, false, not, ◌&&◌, List, [], ◌∷◌, map, filter, Option, Some, None, Contains, bytes_eq, refl, sym, ap, ◌∙◌, subst, lit≤}
 use Rattle.std.proofs.lemmas.Bool.{false≢true, true_from_ne_false, not-false, and_parts, and_from}
 use Rattle.std.proofs.lemmas.List.Elements.{All-contains}
 use Rattle.json_text.proofs.CallerLemmas.{bytes_eq-true, bytes_eq-same, Contains-map}
-use Rattle.frac_keys.specs.Rising.{ends_rise, rise_between, are_rising}
+use Rattle.frac_keys.specs.Rising.{are_rising}
 use Rattle.frac_keys.proofs.CallerLemmas.{rise_between-filter}
 use Rattle.elem.specs.declared.kind.Kind.{Kind}
 use Rattle.elem.specs.ElementValue.{ElementValue}

@@ -1,6 +1,5 @@
 -- Undoing leaves what others changed.
 use Rattle.std.proofs.Common.{◌≡◌, ◌≢◌, ◌⊎◌, ℕ, Bool, true, false, not, ◌&&◌, ◌||◌, List, ◌++◌, filter, Option, Some, None, bytes_eq, inl, inr, refl, sym, ap, ap₂, ◌∙◌, subst}
-use Rattle.std.specs.List.{list_any}
 use Rattle.std.proofs.lemmas.Bool.{cases_Bool, cond-true, cond-false, both_ways}
 use Rattle.std.proofs.lemmas.List.Folds.{list_any-append}
 use Rattle.std.proofs.lemmas.Map.Views.{any-filter_same}
@@ -18,7 +17,7 @@ use Rattle.delta.specs.Undone.{undone_scalar, undone_list, Undoes}
 use Rattle.delta.proofs.CallerLemmas.{are_same-exact, are_same-same, is_in-first}
 use Rattle.undoing.specs.Differing.{same_kind}
 use Rattle.undoing.specs.Entries.{IsOfElements}
-use Rattle.undoing.specs.Leaving.{gains, ChangesByItems, Leaves}
+use Rattle.undoing.specs.Leaving.{ChangesByItems, Leaves}
 use Rattle.undoing.specs.Undoing.{undone}
 use Rattle.undoing.proofs.DifferingLaws.{same_kind-same, same_kind-true}
 use Rattle.undoing.proofs.UndoneLaws.{undone-undoes}

@@ -5,7 +5,6 @@ use Rattle.std.specs.Option.{option_map, option_or}
 use Rattle.std.proofs.ByRecursion.{All-append, All-map, All-weaker, all_kept_by}
 use Rattle.std.proofs.lemmas.List.Elements.{All-from_recursion, recursion_from_All}
 use Rattle.std.proofs.lemmas.List.Sorted.{All-permutation}
-use Rattle.index_repair.specs.Repair.{repaired}
 use Rattle.json_text.specs.FirstOccurrences as texts
 use Rattle.elem.specs.declared.parts.BoundRef.{BoundRef}
 use Rattle.elem.specs.ElementValue.{ElementValue}

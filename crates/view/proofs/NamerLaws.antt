@@ -1,5 +1,5 @@
 -- Who names an element is among the namers of its id.
-use Rattle.std.proofs.Common.{◌≡◌, ℕ, true, false, List, Option, Some, None, Contains, filter, map, bytes_eq, ap, ◌∙◌}
+use Rattle.std.proofs.Common.{◌≡◌, ℕ, true, false, List, None, Contains, filter, map, bytes_eq, ap, ◌∙◌}
 use Rattle.std.specs.List.{list_any}
 use Rattle.std.specs.Option.{option_map_or}
 use Rattle.frac_keys.specs.Rising.{are_rising}

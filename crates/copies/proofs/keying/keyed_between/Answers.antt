@@ -1,4 +1,4 @@
-use Rattle.std.proofs.Common.{◌≡◌, [], length, ap, ap₂, ◌∙◌, option_copied}
+use Rattle.std.proofs.Common.{◌≡◌, length, ap, ap₂, ◌∙◌, option_copied}
 use Rattle.frac_keys.specs.Between.{keys_between}
 use Rattle.index_repair.specs.Keyed.{keyed, with_index}
 use Rattle.index_repair.proofs.CallerLemmas.{keyed-zip}

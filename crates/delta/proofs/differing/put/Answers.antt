@@ -1,9 +1,9 @@
 -- The change is put where its name belongs.
-use Rattle.std.proofs.Common.{◌≡◌, set, insert, true, sym, ap, ◌∙◌, if◌then◌else◌, subst}
+use Rattle.std.proofs.Common.{◌≡◌, set, insert, true, sym, ap, ◌∙◌, if◌then◌else◌}
 use Rattle.frac_keys.specs.Rising.{are_rising}
 use Rattle.delta.specs.Facts.{name_of, change_names}
 use Rattle.delta.specs.Placed.{with_item}
-use Rattle.delta.proofs.Placing.{is_at, put-at}
+use Rattle.delta.proofs.Placing.{put-at}
 use Rattle.delta.proofs.differing.put.Goals as goal
 use Rattle.delta.proofs.differing.put.Goals.{After-is_same_at}
 

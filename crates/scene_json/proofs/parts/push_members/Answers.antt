@@ -10,7 +10,7 @@ use Rattle.scene_json.specs.inner.Passes.{StandHere, EndsAt, GoesOn, IsPassed}
 use Rattle.scene_json.proofs.FirstBytes.{inside, array-here, array-first}
 use Rattle.scene_json.proofs.MembersLeft.{IsNextMember, behind_member, members-inside, members-none, members-next, quoted-here, value-here, end-here}
 use Rattle.scene_json.proofs.parts.push_members.Goals as goal
-use Rattle.scene_json.proofs.parts.push_members.Goals.{In-loop-at, After-next_end-end}
+use Rattle.scene_json.proofs.parts.push_members.Goals.{In-loop-at}
 
 pub bounds-bytes-at : goal.bounds-bytes-at
 bounds-bytes-at c =

@@ -1,9 +1,8 @@
 -- What a command may rely on of a board: the view and what it keeps beside what is shown.
-use Rattle.std.specs.Prelude.{◌≡◌, IsPermutation}
+use Rattle.std.specs.Prelude.{IsPermutation}
 use Rattle.std.proofs.Common.{subst, sym}
 use Rattle.elem_store.specs.Updates.{ids_of}
 use Rattle.view.specs.Kept.{AreOthersAsStored, AreOthersKeyedAsStored, HaveRowsOf}
-use Rattle.view.specs.Shown.{live_elements}
 use Rattle.replica.proofs.board.Board.given.Goals as goal
 
 pub changed-requires-clause-lookup : goal.changed-requires-clause-lookup

@@ -1,5 +1,5 @@
 -- Each id stays stored, and its own is touched.
-use Rattle.std.proofs.Common.{◌≡◌, [], ◌∷◌, sym, subst}
+use Rattle.std.proofs.Common.{◌≡◌, sym, subst}
 use Rattle.elem_store.specs.Updates.{HasTaken}
 use Rattle.snapshot.specs.Touched.{AreUntouched, HasTouched}
 use Rattle.snapshot.proofs.CallerLemmas.{untouched-grown}

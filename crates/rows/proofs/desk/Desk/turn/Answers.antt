@@ -1,5 +1,5 @@
 -- A step keeps that each id is stored.
-use Rattle.std.proofs.Common.{◌≡◌, Ok, sym, ap, ◌∙◌, subst}
+use Rattle.std.proofs.Common.{Ok, sym, ap, ◌∙◌, subst}
 use Rattle.history.specs.declared.step.Step.{Step}
 use Rattle.history.specs.Stacks.{Stacks, noted, put_step}
 use Rattle.history.proofs.CallerLemmas.{noted-none}

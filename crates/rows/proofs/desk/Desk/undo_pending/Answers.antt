@@ -1,5 +1,5 @@
 -- The snapshot is what is stored, and a step keeps that each id is stored.
-use Rattle.std.proofs.Common.{◌≡◌, Ok, Contains, sym, ap, ◌∙◌, subst, subst₂}
+use Rattle.std.proofs.Common.{Ok, Contains, sym, ap, ◌∙◌, subst}
 use Rattle.undoing.specs.Carrying.{with_all_put}
 use Rattle.history.specs.declared.planned.Direction.TheVariants.{Undo}
 use Rattle.history.specs.declared.step.Step.{Step}
