@@ -103,7 +103,8 @@ pub(crate) fn text_or_null(
 /// The key, or none where `index` is null or a text that is no key.
 pub(crate) fn index(alloc: Global, members: &List<Member>) -> Result<Option<Key>, Stop<ElemFault>>
     requires { HaveRisingNames (pairs members.now) }
-    ensures { Reads (IsKeyOrNull (value_at (codes "index") (pairs members.now))) faults.Index result }
+    ensures { Reads (IsKeyOrNull (value_at (codes "index") (pairs members.now))) faults.Index
+        result }
 {
     match text_or_null(alloc, members, "index", INDEX, ElemFault::Index)? {
         Some(text) => Ok(Key::read(alloc, text.as_bytes())?),
