@@ -16,6 +16,12 @@ pub alone : (bytes : List ℕ) (next : ℕ) → next < length bytes → stretch 
 alone bytes next high =
     one_more bytes next next (omega arith) high ∙ ap (λ x. x ++ get_or bytes next 0 ∷ []) (stretch_none bytes next)
 
+-- the first byte of a stretch, and the others
+pub headed : (bytes : List ℕ) (at end : ℕ) → at < length bytes → at < end
+    → stretch bytes at end ≡ get_or bytes at 0 ∷ stretch bytes (at + 1) end
+headed bytes at end high some = stretch_more bytes at (at + 1) (omega arith) end (omega arith)
+    ∙ ap (λ x. x ++ stretch bytes (at + 1) end) (alone bytes at high)
+
 module _ (bytes : List ℕ) (next : ℕ) (w : Writer) (high : next < length bytes) (fits : Fits next w) where
   abbrev byte : ℕ
   byte = get_or bytes next 0
@@ -80,8 +86,7 @@ module _ (bytes : List ℕ) (at end : ℕ) (w : Writer) (up : at ≤ end) (high 
   others = stretch bytes (at + 1) end
 
   first : at < end → stretch bytes at end ≡ b ∷ others
-  first some = stretch_more bytes at (at + 1) (omega arith) end (omega arith)
-      ∙ ap (λ x. x ++ others) (alone bytes at (omega arith))
+  first some = headed bytes at end (omega arith) some
 
   pub stretch_in : at < end → w.quoted ≡ true → Ready text (writing_at bytes end (record w { escaped = false })) more
   stretch_in some quoted =

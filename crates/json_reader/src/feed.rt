@@ -331,5 +331,5 @@ fn read_on(alloc: Global, reader: &mut ValueReader, bytes: &[u8]) -> Result<Take
     ensures came { IfOk result (λ taken. Came bytes.now 0 taken) }
     ensures anew { (any : List ℕ) → IsRead any 0 reader.new }
 {
-    replace(reader, ValueReader::new(alloc, 0)).read(alloc, bytes)
+    replace(reader, ValueReader::new(alloc, 0)).read(bytes)
 }

@@ -102,13 +102,7 @@ impl Writer {
 
     /// Takes the byte at an offset.
     #[inline(always)]
-    pub(crate) fn put(
-        &mut self,
-        alloc: Global,
-        bytes: &[u8],
-        next: usize,
-        byte: u8,
-    ) -> Result<(), AllocError>
+    pub(crate) fn put(&mut self, bytes: &[u8], next: usize, byte: u8) -> Result<(), AllocError>
         requires within { next < length bytes.now }
         requires byte { slice_index bytes.now next ≡ byte }
         requires fits { Fits next self.old }
@@ -121,9 +115,9 @@ impl Writer {
             self.old self.new) }
     {
         if self.quoted {
-            self.put_quoted(alloc, bytes, next, byte)
+            self.put_quoted(bytes, next, byte)
         } else {
-            self.put_between(alloc, bytes, next, byte)
+            self.put_between(bytes, next, byte)
         }
     }
 
@@ -188,13 +182,7 @@ impl Writer {
     /// Takes a byte in a string.
     #[tactic(auto, using(crate::proofs::Copying::string_steps))]
     #[inline(always)]
-    fn put_quoted(
-        &mut self,
-        alloc: Global,
-        bytes: &[u8],
-        next: usize,
-        byte: u8,
-    ) -> Result<(), AllocError>
+    fn put_quoted(&mut self, bytes: &[u8], next: usize, byte: u8) -> Result<(), AllocError>
         requires quoted { self.old.quoted ≡ true }
         requires within { next < length bytes.now }
         requires byte { slice_index bytes.now next ≡ byte }
@@ -212,7 +200,7 @@ impl Writer {
             return Ok(());
         }
         match byte {
-            b'"' if self.escapes => self.quote(alloc, bytes, next)?,
+            b'"' if self.escapes => self.quote(bytes, next)?,
             b'"' => self.quoted = false,
             b'\\' => {
                 self.escaped = true;
@@ -225,13 +213,7 @@ impl Writer {
 
     /// Takes a byte outside strings.
     #[inline(always)]
-    fn put_between(
-        &mut self,
-        alloc: Global,
-        bytes: &[u8],
-        next: usize,
-        byte: u8,
-    ) -> Result<(), AllocError>
+    fn put_between(&mut self, bytes: &[u8], next: usize, byte: u8) -> Result<(), AllocError>
         requires apart { self.old.quoted ≡ false }
         requires within { next < length bytes.now }
         requires byte { slice_index bytes.now next ≡ byte }
@@ -247,8 +229,8 @@ impl Writer {
                 self.begin(next);
                 Ok(())
             }
-            Deed::Open => self.open(alloc, bytes, next),
-            Deed::Shut => self.shut(alloc, bytes, next),
+            Deed::Open => self.open(bytes, next),
+            Deed::Shut => self.shut(bytes, next),
             Deed::Name => {
                 self.end_name(bytes, next);
                 Ok(())
@@ -295,7 +277,7 @@ impl Writer {
 
     /// A string ends that has an escape. It is quoted anew.
     #[inline(never)]
-    fn quote(&mut self, alloc: Global, bytes: &[u8], next: usize) -> Result<(), AllocError>
+    fn quote(&mut self, bytes: &[u8], next: usize) -> Result<(), AllocError>
         requires quoted { self.old.quoted ≡ true }
         requires within { next < length bytes.now }
         requires fits { Fits next self.old }
@@ -304,7 +286,7 @@ impl Writer {
         ensures { OnOk result (HasPut Finish bytes.now next self.old self.new) }
     {
         self.copy(bytes, self.start)?;
-        let (text, _end) = content_of(alloc, bytes, self.start)?;
+        let (text, _end) = content_of(*self.around.allocator(), bytes, self.start)?;
         self.here.push_quote(&text)?;
         self.from = next + 1;
         self.quoted = false;
@@ -315,14 +297,14 @@ impl Writer {
     /// An object is opened.
     #[tactic(auto, using(crate::proofs::Copying::later_steps))]
     #[inline(never)]
-    fn open(&mut self, alloc: Global, bytes: &[u8], next: usize) -> Result<(), AllocError>
+    fn open(&mut self, bytes: &[u8], next: usize) -> Result<(), AllocError>
         requires apart { self.old.quoted ≡ false }
         requires within { next < length bytes.now }
         requires fits { Fits next self.old }
         ensures { OnOk result (HasPut Open bytes.now next self.old self.new) }
     {
         self.copy(bytes, next + 1)?;
-        let inner = unused(alloc, &mut self.spare)?;
+        let inner = unused(&mut self.spare)?;
         let outer = replace(&mut self.here, inner);
         self.around.push(outer)?;
         Ok(())
@@ -331,7 +313,7 @@ impl Writer {
     /// An object is closed.
     #[tactic(auto, using(crate::proofs::Copying::shut_steps))]
     #[inline(never)]
-    fn shut(&mut self, alloc: Global, bytes: &[u8], next: usize) -> Result<(), AllocError>
+    fn shut(&mut self, bytes: &[u8], next: usize) -> Result<(), AllocError>
         requires apart { self.old.quoted ≡ false }
         requires within { next < length bytes.now }
         requires fits { Fits next self.old }
@@ -343,7 +325,7 @@ impl Writer {
             unreachable!()
         };
         let mut inner = replace(&mut self.here, outer);
-        inner.close(alloc)?;
+        inner.close()?;
         self.here.append(&mut inner)?;
         if inner.is_small() {
             self.spare.push(inner)?;
@@ -416,7 +398,7 @@ impl Writer {
 }
 
 /// A draft of which nothing is written, with the room of a spare one if there is one.
-fn unused(alloc: Global, spare: &mut Vec<Draft>) -> Result<Draft, AllocError>
+fn unused(spare: &mut Vec<Draft>) -> Result<Draft, AllocError>
     ensures { IfOk result (λ draft. draft ≡ fresh) }
 {
     match spare.pop() {
@@ -424,7 +406,7 @@ fn unused(alloc: Global, spare: &mut Vec<Draft>) -> Result<Draft, AllocError>
             draft.clear();
             Ok(draft)
         }
-        None => Draft::of_object(alloc),
+        None => Draft::of_object(*spare.allocator()),
     }
 }
 
