@@ -2,10 +2,10 @@
 use Rattle.std.proofs.Common.{◌≡◌, ℕ, ◌+◌, ◌-◌, ◌<◌, ◌≤◌, List, [], ◌∷◌, ◌++◌, true, false, length, take, drop, get_or, refl, sym, ap, subst, ◌∙◌, arith, append_assoc, append-nil, length-append}
 use Rattle.json_text.specs.Characters.{is_space, quote}
 use Rattle.std.proofs.lemmas.List.{same_from_push}
-use Rattle.json_text.specs.Walk.{inside, Quoted}
+use Rattle.json_text.specs.Walk.{Quoted}
 use Rattle.json_text.specs.Tree.{string_spelling}
 use Rattle.json_reader.specs.inner.Drafts.{Drafted, grown}
-use Rattle.json_reader.specs.inner.Writing.{Writer, deed, AreAlike, ground_of, Ready, stretch, writing_at, copied, Fits, HasPut, Can, Finish}
+use Rattle.json_reader.specs.inner.Writing.{Writer, deed_at, AreAlike, ground_of, Ready, stretch, writing_at, copied, Fits, HasPut, Can, CanPut, IsPut, Finish}
 use Rattle.json_reader.proofs.Outcomes.{parted, one_more, stretch_more}
 use Rattle.json_reader.proofs.Ready.{quoted-once, stretch-quoted, stretch-appended, stretch-dropped}
 
@@ -35,11 +35,10 @@ module _ (bytes : List ℕ) (next : ℕ) (w : Writer) (high : next < length byte
     ended : (writing_at bytes next w).string ++ byte ∷ [] ≡ stretch bytes w.start (next + 1)
     ended = rw quoted (sym (one_more bytes w.start next low.1 high))
 
-    pub finished : w.escaped ≡ false → byte ≡ 34 → w.escapes ≡ false
-        → Can (deed (inside w.escaped) w.here.level byte) (writing_at bytes next w) byte
-        → HasPut (deed (inside w.escaped) w.here.level byte) bytes next w (record w { quoted = false })
+    pub finished : w.escaped ≡ false → byte ≡ 34 → w.escapes ≡ false → CanPut bytes next w
+        → IsPut bytes next w (record w { quoted = false })
     finished plain end bare can =
-        let is : deed (inside w.escaped) w.here.level byte ≡ Finish = rw (plain, end) refl in
+        let is : deed_at (writing_at bytes next w) byte ≡ Finish = rw (quoted, plain, end) refl in
         let whole = subst (λ d. Can d (writing_at bytes next w) byte) is can in
         subst (λ d. HasPut d bytes next w (record w { quoted = false })) (sym is) (record {
           done = λ text there.

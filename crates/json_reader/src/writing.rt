@@ -5,9 +5,9 @@
 //! of equal names in an object the last value is kept.
 
 ghost use Rattle.std.specs.Prelude.{◌≡◌, ℕ, ◌+◌, ◌<◌, ◌≤◌, List, [], ◌++◌, true, false, length, slice_index, IfOk, OnOk};
-ghost use Rattle.json_text.specs.Walk.{outside, inside};
+ghost use Rattle.json_text.specs.Walk.{outside};
 ghost use Rattle.json_reader.specs.inner.Drafts.{fresh, grown};
-ghost use Rattle.json_reader.specs.inner.Writing.{between, deed, deed_at, stretch, copied, ground_of, writing_at, AreAlike, Can, Fits, HasPut, Ready};
+ghost use Rattle.json_reader.specs.inner.Writing.{between, deed, stretch, copied, ground_of, writing_at, AreAlike, Can, CanPut, Fits, HasPut, IsPut, Ready};
 ghost use Rattle.json_reader.specs.declared.writing.Deed.TheVariants.{Skip, Begin, Finish, Open, Shut, Name, Part, Deepen, Rise, Push};
 
 use crate::draft::Draft;
@@ -106,13 +106,8 @@ impl Writer {
         requires within { next < length bytes.now }
         requires byte { slice_index bytes.now next ≡ byte }
         requires fits { Fits next self.old }
-        requires can { Can (deed_at (writing_at bytes.now next self.old)
-            (slice_index bytes.now next))
-            (writing_at bytes.now next self.old) (slice_index bytes.now next) }
-        ensures { OnOk result
-            (HasPut (deed_at (writing_at bytes.now next self.old) (slice_index bytes.now next))
-            bytes.now next
-            self.old self.new) }
+        requires can { CanPut bytes.now next self.old }
+        ensures { OnOk result (IsPut bytes.now next self.old self.new) }
     {
         if self.quoted {
             self.put_quoted(bytes, next, byte)
@@ -187,13 +182,8 @@ impl Writer {
         requires within { next < length bytes.now }
         requires byte { slice_index bytes.now next ≡ byte }
         requires fits { Fits next self.old }
-        requires can { Can (deed (inside self.old.escaped) self.old.here.level
-            (slice_index bytes.now next))
-            (writing_at bytes.now next self.old) (slice_index bytes.now next) }
-        ensures { OnOk result
-            (HasPut (deed (inside self.old.escaped) self.old.here.level
-            (slice_index bytes.now next))
-            bytes.now next self.old self.new) }
+        requires can { CanPut bytes.now next self.old }
+        ensures { OnOk result (IsPut bytes.now next self.old self.new) }
     {
         if self.escaped {
             self.escaped = false;
@@ -218,11 +208,8 @@ impl Writer {
         requires within { next < length bytes.now }
         requires byte { slice_index bytes.now next ≡ byte }
         requires fits { Fits next self.old }
-        requires can { Can (deed outside self.old.here.level (slice_index bytes.now next))
-            (writing_at bytes.now next self.old) (slice_index bytes.now next) }
-        ensures { OnOk result (HasPut
-            (deed outside self.old.here.level (slice_index bytes.now next))
-            bytes.now next self.old self.new) }
+        requires can { CanPut bytes.now next self.old }
+        ensures { OnOk result (IsPut bytes.now next self.old self.new) }
     {
         match deed_between(self.here.level(), byte) {
             Deed::Begin => {

@@ -135,11 +135,22 @@ AreAlike ground.Between bytes = AllByRecursion (λ b. is_space b ≡ true) bytes
 abbrev pub copied : List ℕ → ℕ → Writer → Writer
 copied bytes to w = record w { here = grown w.here (stretch bytes w.from to); from = to }
 
--- what comes of the byte at an offset
+-- what comes of the byte at an offset, with which this is done
 pub record HasPut (d : Deed) (bytes : List ℕ) (next : ℕ) (old new : Writer) : Type 0 where
   pub done : Done d (writing_at bytes next old) (slice_index bytes next)
       (writing_at bytes (next + 1) new)
   pub fits : Fits (next + 1) new
+
+-- what it takes of the byte at an offset
+abbrev pub CanPut : List ℕ → ℕ → Writer → Type 0
+CanPut bytes next w =
+    Can (deed_at (writing_at bytes next w) (slice_index bytes next)) (writing_at bytes next w)
+    (slice_index bytes next)
+
+-- what comes of it
+abbrev pub IsPut : List ℕ → ℕ → Writer → Writer → Type 0
+IsPut bytes next old new =
+    HasPut (deed_at (writing_at bytes next old) (slice_index bytes next)) bytes next old new
 
 -- Each of these bytes may be taken, and however they are, this text and nothing else is written
 -- then.
