@@ -7,7 +7,7 @@
 ghost use Rattle.std.specs.Prelude.{◌≡◌, ℕ, ◌+◌, ◌<◌, ◌≤◌, List, [], ◌++◌, true, false, length, slice_index, IfOk, OnOk};
 ghost use Rattle.json_text.specs.Walk.{outside};
 ghost use Rattle.json_reader.specs.inner.Drafts.{fresh, grown};
-ghost use Rattle.json_reader.specs.inner.Writing.{between, deed, stretch, copied, ground_of, writing_at, AreAlike, Can, CanPut, Fits, HasPut, IsPut, Ready};
+ghost use Rattle.json_reader.specs.inner.Writing.{between, deed, stretch, copied, ground_of, writing_at, AreAlike, Can, CanPut, Fits, HasPut, IsBetween, IsPut, Ready};
 ghost use Rattle.json_reader.specs.declared.writing.Deed.TheVariants.{Skip, Begin, Finish, Open, Shut, Name, Part, Deepen, Rise, Push};
 
 use crate::draft::Draft;
@@ -204,10 +204,8 @@ impl Writer {
     /// Takes a byte outside strings.
     #[inline(always)]
     fn put_between(&mut self, bytes: &[u8], next: usize, byte: u8) -> Result<(), AllocError>
-        requires apart { self.old.quoted ≡ false }
-        requires within { next < length bytes.now }
+        requires between { IsBetween bytes.now next self.old }
         requires byte { slice_index bytes.now next ≡ byte }
-        requires fits { Fits next self.old }
         requires can { CanPut bytes.now next self.old }
         ensures { OnOk result (IsPut bytes.now next self.old self.new) }
     {
@@ -239,9 +237,7 @@ impl Writer {
     /// White space is dropped.
     #[inline(never)]
     fn skip(&mut self, bytes: &[u8], next: usize) -> Result<(), AllocError>
-        requires apart { self.old.quoted ≡ false }
-        requires within { next < length bytes.now }
-        requires fits { Fits next self.old }
+        requires { IsBetween bytes.now next self.old }
         ensures { OnOk result (HasPut Skip bytes.now next self.old self.new) }
     {
         self.copy(bytes, next)?;
@@ -251,9 +247,7 @@ impl Writer {
 
     /// A string begins.
     fn begin(&mut self, next: usize)
-        requires apart { self.old.quoted ≡ false }
-        requires fits { Fits next self.old }
-        ensures { (bytes : List ℕ) → next < length bytes
+        ensures { (bytes : List ℕ) → IsBetween bytes next self.old
             → HasPut Begin bytes next self.old self.new }
     {
         self.quoted = true;
@@ -285,9 +279,7 @@ impl Writer {
     #[tactic(auto, using(crate::proofs::Copying::later_steps))]
     #[inline(never)]
     fn open(&mut self, bytes: &[u8], next: usize) -> Result<(), AllocError>
-        requires apart { self.old.quoted ≡ false }
-        requires within { next < length bytes.now }
-        requires fits { Fits next self.old }
+        requires { IsBetween bytes.now next self.old }
         ensures { OnOk result (HasPut Open bytes.now next self.old self.new) }
     {
         self.copy(bytes, next + 1)?;
@@ -301,9 +293,7 @@ impl Writer {
     #[tactic(auto, using(crate::proofs::Copying::shut_steps))]
     #[inline(never)]
     fn shut(&mut self, bytes: &[u8], next: usize) -> Result<(), AllocError>
-        requires apart { self.old.quoted ≡ false }
-        requires within { next < length bytes.now }
-        requires fits { Fits next self.old }
+        requires between { IsBetween bytes.now next self.old }
         requires can { Can Shut (writing_at bytes.now next self.old) (slice_index bytes.now next) }
         ensures { OnOk result (HasPut Shut bytes.now next self.old self.new) }
     {
@@ -323,9 +313,7 @@ impl Writer {
     /// The name of a member ends.
     #[tactic(auto, using(crate::proofs::Copying::later_steps))]
     fn end_name(&mut self, bytes: &[u8], next: usize)
-        requires apart { self.old.quoted ≡ false }
-        requires within { next < length bytes.now }
-        requires fits { Fits next self.old }
+        requires { IsBetween bytes.now next self.old }
         ensures { HasPut Name bytes.now next self.old self.new }
     {
         self.here.end_name(&bytes[self.from..next]);
@@ -334,9 +322,7 @@ impl Writer {
     /// A member ends.
     #[tactic(auto, using(crate::proofs::Copying::later_steps))]
     fn end_member(&mut self, bytes: &[u8], next: usize) -> Result<(), AllocError>
-        requires apart { self.old.quoted ≡ false }
-        requires within { next < length bytes.now }
-        requires fits { Fits next self.old }
+        requires { IsBetween bytes.now next self.old }
         ensures { OnOk result (HasPut Part bytes.now next self.old self.new) }
     {
         self.here.end_member(&bytes[self.from..next])?;
@@ -346,9 +332,7 @@ impl Writer {
     /// An array is opened.
     #[tactic(auto, using(crate::proofs::Copying::later_steps))]
     fn deepen(&mut self) -> Result<(), AllocError>
-        requires { self.old.quoted ≡ false }
-        ensures { OnOk result ((bytes : List ℕ) (next : ℕ) → next < length bytes
-            → Fits next self.old
+        ensures { OnOk result ((bytes : List ℕ) (next : ℕ) → IsBetween bytes next self.old
             → HasPut Deepen bytes next self.old self.new) }
     {
         self.here.deepen()?;
@@ -358,8 +342,7 @@ impl Writer {
     /// An array is closed.
     #[tactic(auto, using(crate::proofs::Copying::later_steps))]
     fn rise(&mut self)
-        requires { self.old.quoted ≡ false }
-        ensures { (bytes : List ℕ) (next : ℕ) → next < length bytes → Fits next self.old
+        ensures { (bytes : List ℕ) (next : ℕ) → IsBetween bytes next self.old
             → HasPut Rise bytes next self.old self.new }
     {
         self.here.rise();
@@ -368,8 +351,7 @@ impl Writer {
     /// A byte is to be appended as it stands.
     #[tactic(auto, using(crate::proofs::Copying::later_steps))]
     fn push(&mut self)
-        requires { self.old.quoted ≡ false }
-        ensures { (bytes : List ℕ) (next : ℕ) → next < length bytes → Fits next self.old
+        ensures { (bytes : List ℕ) (next : ℕ) → IsBetween bytes next self.old
             → HasPut Push bytes next self.old self.new }
     {}
 

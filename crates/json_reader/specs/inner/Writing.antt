@@ -57,6 +57,12 @@ pub record Fits (next : ℕ) (w : Writer) : Type 0 where
   pub from : w.from ≤ kept_to next w
   pub to : kept_to next w ≤ next
 
+-- The writer stands outside strings before an offset of these bytes.
+pub record IsBetween (bytes : List ℕ) (next : ℕ) (w : Writer) : Type 0 where
+  pub within : next < length bytes
+  pub apart : w.quoted ≡ false
+  pub fits : Fits next w
+
 -- what is done with a byte, where so many arrays are open in the innermost object
 abbrev pub deed : Place → ℕ → ℕ → Deed
 deed outside level b =
