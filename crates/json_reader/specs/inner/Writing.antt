@@ -180,7 +180,7 @@ pub record HasRead (bytes : List ℕ) (at next : ℕ) (machine : Machine) (write
   pub fits : Fits next writer
   pub written : HasWritten (stretch bytes at next) (writing_at bytes next writer)
 
--- These bytes are read from some offset on to the next one.
+-- The bytes before an offset are read and written, from some offset on.
 abbrev pub IsReadTo : List ℕ → ℕ → Reading → Type 0
 IsReadTo bytes next r = (at : ℕ) × HasRead bytes at next r.machine r.writer
 
