@@ -156,7 +156,10 @@ impl Machine {
         requires { at < length bytes.now }
         ensures { HasPassed ground bytes.now at result self.old self.new }
     {
-        let (Ground::Between, Some(part)) = (ground, self.awaited_part(bytes[at])) else {
+        let Ground::Between = ground else {
+            return at;
+        };
+        let Some(part) = self.awaited_part(bytes[at]) else {
             return at;
         };
         let (last, end) = number_end(part, bytes, at + 1);

@@ -10,11 +10,11 @@ returns c =
     let bytes = c.args.bytes.now in
     let end = c.number_end-last.result.1 in
     let found = c.number_end-last.ensures in
-    let awaited = c.in-Between-Some.ensures in
+    let awaited = c.in-Some.ensures in
     let there = headed bytes c.args.at end c.requires (omega (arith, found.within.0)) in
     record {
       within = (omega (arith, found.within.0), found.within.1);
       ran = rw there (ap (λ o. run 128 o (stretch bytes (c.args.at + 1) end)) awaited.goes
-          ∙ number-runs c.in-Between-Some.part _ _ _ found.part);
-      alike = rw (c.in-Between-Some.is-0, there) (inr (inl (awaited.extends, number-extends _ _ _ found.part)));
+          ∙ number-runs c.in-Some.part _ _ _ found.part);
+      alike = rw (c.in-Between.is, there) (inr (inl (awaited.extends, number-extends _ _ _ found.part)));
     }
