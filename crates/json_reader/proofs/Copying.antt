@@ -2,10 +2,10 @@
 use Rattle.std.proofs.Common.{◌≡◌, ℕ, ◌+◌, ◌-◌, ◌<◌, ◌≤◌, List, [], ◌∷◌, ◌++◌, true, false, length, take, drop, get_or, refl, sym, ap, subst, ◌∙◌, arith, append_assoc, append-nil, length-append}
 use Rattle.json_text.specs.Characters.{is_space, quote}
 use Rattle.std.proofs.lemmas.List.{same_from_push}
-use Rattle.json_text.specs.Walk.{inside, Quoted}
+use Rattle.json_text.specs.Walk.{Quoted}
 use Rattle.json_text.specs.Tree.{string_spelling}
 use Rattle.json_reader.specs.inner.Drafts.{Drafted, grown}
-use Rattle.json_reader.specs.inner.Writing.{Writer, deed, AreAlike, ground_of, Ready, stretch, writing_at, copied, Fits, HasPut, Can, Finish}
+use Rattle.json_reader.specs.inner.Writing.{Writer, deed_at, AreAlike, ground_of, Ready, stretch, writing_at, copied, Fits, HasPut, Can, CanPut, IsPut, Finish}
 use Rattle.json_reader.proofs.Outcomes.{parted, one_more, stretch_more}
 use Rattle.json_reader.proofs.Ready.{quoted-once, stretch-quoted, stretch-appended, stretch-dropped}
 
@@ -15,6 +15,12 @@ stretch_none bytes k = let none : k - k ≡ 0 = omega arith in ap (λ n. take n 
 pub alone : (bytes : List ℕ) (next : ℕ) → next < length bytes → stretch bytes next (next + 1) ≡ get_or bytes next 0 ∷ []
 alone bytes next high =
     one_more bytes next next (omega arith) high ∙ ap (λ x. x ++ get_or bytes next 0 ∷ []) (stretch_none bytes next)
+
+-- the first byte of a stretch, and the others
+pub headed : (bytes : List ℕ) (at end : ℕ) → at < length bytes → at < end
+    → stretch bytes at end ≡ get_or bytes at 0 ∷ stretch bytes (at + 1) end
+headed bytes at end high some = stretch_more bytes at (at + 1) (omega arith) end (omega arith)
+    ∙ ap (λ x. x ++ stretch bytes (at + 1) end) (alone bytes at high)
 
 module _ (bytes : List ℕ) (next : ℕ) (w : Writer) (high : next < length bytes) (fits : Fits next w) where
   abbrev byte : ℕ
@@ -29,11 +35,10 @@ module _ (bytes : List ℕ) (next : ℕ) (w : Writer) (high : next < length byte
     ended : (writing_at bytes next w).string ++ byte ∷ [] ≡ stretch bytes w.start (next + 1)
     ended = rw quoted (sym (one_more bytes w.start next low.1 high))
 
-    pub finished : w.escaped ≡ false → byte ≡ 34 → w.escapes ≡ false
-        → Can (deed (inside w.escaped) w.here.level byte) (writing_at bytes next w) byte
-        → HasPut (deed (inside w.escaped) w.here.level byte) bytes next w (record w { quoted = false })
+    pub finished : w.escaped ≡ false → byte ≡ 34 → w.escapes ≡ false → CanPut bytes next w
+        → IsPut bytes next w (record w { quoted = false })
     finished plain end bare can =
-        let is : deed (inside w.escaped) w.here.level byte ≡ Finish = rw (plain, end) refl in
+        let is : deed_at (writing_at bytes next w) byte ≡ Finish = rw (quoted, plain, end) refl in
         let whole = subst (λ d. Can d (writing_at bytes next w) byte) is can in
         subst (λ d. HasPut d bytes next w (record w { quoted = false })) (sym is) (record {
           done = λ text there.
@@ -80,8 +85,7 @@ module _ (bytes : List ℕ) (at end : ℕ) (w : Writer) (up : at ≤ end) (high 
   others = stretch bytes (at + 1) end
 
   first : at < end → stretch bytes at end ≡ b ∷ others
-  first some = stretch_more bytes at (at + 1) (omega arith) end (omega arith)
-      ∙ ap (λ x. x ++ others) (alone bytes at (omega arith))
+  first some = headed bytes at end (omega arith) some
 
   pub stretch_in : at < end → w.quoted ≡ true → Ready text (writing_at bytes end (record w { escaped = false })) more
   stretch_in some quoted =

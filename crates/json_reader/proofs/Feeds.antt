@@ -144,8 +144,8 @@ module _ (rest piece bytes : List ℕ) (is : bytes ≡ behind_space (rest ++ pie
     refl,
     same ∙ is,
     subst IsKept (sym same) (record {
-      mode = reader.machine.mode;
-      brackets = reader.machine.brackets;
+      mode = reader.reading.machine.mode;
+      brackets = reader.reading.machine.brackets;
       ran = ap (run 128 start) (sym (take_all (reader.next - 0) bytes (omega (arith, came.1)))) ∙ came.0.runs;
       begun = grind (arith, is, behind-append (rest ++ piece) [], append-nil (rest ++ piece), append-nil bytes);
       goes_on = came.2;

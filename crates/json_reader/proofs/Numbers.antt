@@ -1,5 +1,5 @@
 -- Numbers that go on over a stretch.
-use Rattle.std.proofs.Common.{◌≡◌, ℕ, ◌+◌, ◌<◌, ◌≤◌, Bool, true, List, [], ◌∷◌, ◌++◌, ◌&&◌, not, Some, None, option_and_then, drop, length, get_or, ◌⊎◌, inl, inr, refl, ap, ◌∙◌, arith}
+use Rattle.std.proofs.Common.{◌≡◌, ℕ, ◌+◌, ◌<◌, ◌≤◌, true, List, [], ◌∷◌, ◌++◌, ◌&&◌, not, Some, None, option_and_then, drop, length, get_or, ◌⊎◌, inl, inr, refl, ap, arith}
 use Rattle.std.specs.List.{AllByRecursion, prefix_len}
 use Rattle.std.proofs.lemmas.Bool.Decides.{nat_tests}
 use Rattle.json_text.specs.Characters.{is_digit}
@@ -8,7 +8,7 @@ use Rattle.json_text.proofs.CallerLemmas.{passed_all}
 use Rattle.json_reader.specs.inner.Machine.{Part, Minus, Zero, Whole, Dot, Fraction, Letter, Sign, Exponent, Bracket, Number, state, top, applied, is_complete, number_move_on, part_after, parts_after}
 use Rattle.json_reader.specs.inner.Runs.{run}
 use Rattle.json_reader.specs.inner.Writing.{stretch}
-use Rattle.json_reader.proofs.Copying.{alone}
+use Rattle.json_reader.proofs.Copying.{headed}
 use Rattle.json_reader.proofs.Outcomes.{stretch_more}
 
 -- after more bytes
@@ -54,7 +54,7 @@ pub byte-follows : (part mid last : Part) (bytes : List ℕ) (at next end : ℕ)
     → next ≤ end → part_after part (get_or bytes at 0) ≡ Some mid → parts_after mid (stretch bytes next end) ≡ Some last
     → parts_after part (stretch bytes at end) ≡ Some last
 byte-follows part mid last bytes at next end high is up first others =
-    rw (stretch_more bytes at (at + 1) (omega arith) end (omega arith), alone bytes at high, first, ← is) others
+    rw (headed bytes at end high (omega arith), first, ← is) others
 
 -- after a point, a digit and those behind it
 pub fraction-follows : (part : Part) (bytes : List ℕ) (at end : ℕ) → (part ≡ Zero) ⊎ (part ≡ Whole)
@@ -102,5 +102,3 @@ number-extends part last (b ∷ xs) e =
       | None ↦ λ is h. cc
       | Some p ↦ λ is h. (part-extends part b p is, number-extends p last xs h)
     ] refl e
-
-pub ruleset number_steps = (number-runs, number-extends)

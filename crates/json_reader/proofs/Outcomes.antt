@@ -1,7 +1,6 @@
 -- The machine over the bytes from an offset on: at each one a value stands or there is a first fault.
 use Rattle.std.proofs.Common.{◌≡◌, ℕ, suc, ◌+◌, ◌-◌, ◌<◌, ◌≤◌, List, [], ◌∷◌, length, drop, ◌++◌, get_or, Some, true, refl, sym, ap, subst, ◌∙◌, arith, length-append, append_assoc, append-nil, drop-cons, ◌⊎◌, inl, inr, nat_lt, subst₂, length-drop}
 use Rattle.std.specs.Prelude.{slice_get}
-use Rattle.std.specs.List.{AllByRecursion}
 use Rattle.std.proofs.lemmas.List.{append_cancel_right, drop-drop, take-append-drop}
 use Rattle.std.proofs.Math.Seq.{take-add, take-append_seam, drop-append_seam}
 use Rattle.json_text.specs.Value.{Stands, IsFaulty}
@@ -13,7 +12,6 @@ use Rattle.json_reader.specs.inner.Machine.{Machine, Bracket, Mode, To, Outcome,
 use Rattle.json_reader.proofs.Steps.{run, start, run-append}
 use Rattle.json_reader.proofs.ValueRuns.{refused_faulty, undone_faulty, ended_stands, done_stands}
 use Rattle.json_reader.proofs.FirstFaults.{told}
-use Rattle.json_reader.proofs.Moves.{stay_run}
 use Rattle.std.proofs.lemmas.Bool.{cond_both}
 
 module _ (bytes : List ℕ) (at i : ℕ) (low : at ≤ i) where
@@ -60,11 +58,6 @@ module _ (bytes : List ℕ) (at i : ℕ) (low : at ≤ i) where
       breaks = breaks;
       told = told;
     }
-
-    -- the bytes from i to j leave the machine as it is
-    pub stayed : (j : ℕ) → i ≤ j → AllByRecursion (λ b. moved m (top st) b ≡ To m) (stretch bytes i j)
-        → run 128 start (stretch bytes at j) ≡ state m st
-    stayed j up all = rw (stretch_more j up, run-append, is) (stay_run m st (stretch bytes i j) all)
 
 -- ---- the machine stands so behind the bytes in front
 slice_get-seam : (xs ys : List ℕ) → slice_get (xs ++ ys) (length xs) ≡ slice_get ys 0

@@ -5,9 +5,9 @@ use Rattle.std.proofs.lemmas.Bool.Decides.{nat_tests}
 use Rattle.json_text.specs.Characters.{is_bare}
 use Rattle.json_reader.specs.inner.Machine.{Bracket, Mode, Role, Quoted, Plain, To, after_string, moved, state, step, top}
 use Rattle.json_reader.specs.inner.Writing.{stretch}
-use Rattle.json_reader.proofs.Copying.{alone}
+use Rattle.json_reader.proofs.Copying.{headed}
 use Rattle.json_reader.proofs.Moves.{stay_run}
-use Rattle.json_reader.proofs.Outcomes.{one_more, stretch_more}
+use Rattle.json_reader.proofs.Outcomes.{one_more}
 use Rattle.json_reader.proofs.Steps.{run, run-append}
 
 text-stays : (role : Role) (st : List Bracket) (xs : List ℕ) → AllByRecursion (λ b. is_bare b ≡ true) xs
@@ -28,8 +28,7 @@ pub string-there : (bytes : List ℕ) (at end : ℕ) → at + 1 ≤ end → end 
     → get_or bytes end 0 ≡ 34 → stretch bytes at (end + 1) ≡ 34 ∷ (stretch bytes (at + 1) end ++ 34 ∷ [])
 string-there bytes at end up high begins ends =
     rw (
-      stretch_more bytes at (at + 1) (omega arith) (end + 1) (omega arith),
-      alone bytes at (omega arith),
+      headed bytes at (end + 1) (omega arith) (omega arith),
       one_more bytes (at + 1) end up high,
       begins,
       ends,

@@ -13,7 +13,7 @@ use Rattle.json_text.specs.Walk.{inside, Quoted}
 use Rattle.json_text.specs.Tree.{Piece, bare, letter, unit, IsPiece, piece_spelling, string_spelling, array, object, Label, unnamed, named, IsLabel, label_spelling, Tree, scalar, text, empty, filled, Values, last, next, spelling, values_spelling, IsGood, AreGood}
 use Rattle.json_reader.specs.inner.Drafts.{Drafted, fresh, grown, pair_text, pairs_text}
 use Rattle.json_reader.specs.inner.Places.{quoted}
-use Rattle.json_reader.specs.inner.Writing.{Writing, between, deed_at, Can, Done, AreAlike, IsPlainString, Ready, Deed, Skip, Keep, Slash, Push}
+use Rattle.json_reader.specs.inner.Writing.{Writing, between, deed_at, Can, Done, AreAlike, Ready, Deed, Skip, Keep, Slash, Push}
 use Rattle.json_text.proofs.CallerLemmas.{members-utf8, content-first, is_part_of_literal, list_all-each, literal-plain, regroup-last, regroup-next, plain-bare, quoted-bare, plain-quote, plain-slash, hex-plain, pieces-once, bytes_eq-true, bytes_eq-same, collapsed-names, quote-Quoted}
 use Rattle.json_reader.proofs.Drafting.{IsRow, row_none, row_more, labelled, whole, closed_so}
 use Rattle.json_reader.specs.declared.staying.Ground.TheVariants as ground

@@ -4,13 +4,13 @@ use Rattle.json_text.specs.Compact.{compact}
 use Rattle.json_text.specs.Tree.{spelling}
 use Rattle.json_text.specs.Value.{Stands}
 use Rattle.json_reader.specs.inner.Drafts.{fresh, grown}
-use Rattle.json_reader.specs.inner.Machine.{Machine, To, state, top, moved}
-use Rattle.std.specs.List.{AllByRecursion}
-use Rattle.json_reader.specs.inner.Writing.{Writer, between, deed_at, Ready, HasWritten, stretch, writing_at, Fits, Can, HasPut, HasRead, Ends, Came, GoesOn}
+use Rattle.json_reader.specs.inner.Machine.{Machine, GoesOn, state}
+use Rattle.json_reader.specs.inner.Runs.{RunsOn}
+use Rattle.json_reader.specs.inner.Writing.{Writer, between, Ready, HasWritten, stretch, writing_at, Fits, CanPut, IsPut, HasRead, Ends, Came}
 use Rattle.json_reader.specs.declared.reader.Taken.TheVariants as taken
 use Rattle.json_reader.proofs.Steps.{run, start, run-append}
 use Rattle.json_reader.proofs.ValueRuns.{runs_begins}
-use Rattle.json_reader.proofs.Outcomes.{parted, one_more, stretch_more, whole_value, read_on, stayed, ends_stands}
+use Rattle.json_reader.proofs.Outcomes.{parted, one_more, stretch_more, whole_value, read_on, ends_stands}
 use Rattle.json_reader.proofs.Ready.{blank-ready, tree-ready}
 use Rattle.json_reader.proofs.Copying.{alone}
 
@@ -70,19 +70,9 @@ module _ (bytes : List ℕ) (at next : ℕ) (machine : Machine) (writer : Writer
           ∙ append_assoc (stretch bytes at next) (stretch bytes next end) more));
     }
 
-  -- a stretch that leaves the machine as it is
-  pub has_passed : (end : ℕ) (new : Writer) → next ≤ end → end ≤ length bytes
-      → AllByRecursion (λ b. moved machine.mode (top machine.brackets) b ≡ To machine.mode) (stretch bytes next end)
-      → ((text more : List ℕ) → Ready text (writing_at bytes next writer) (stretch bytes next end ++ more)
-      → Ready text (writing_at bytes end new) more) → Fits end new
-      → HasRead bytes at end machine new
-  has_passed end new up high stays ready fits =
-      onward end machine new up high (stayed bytes at next read.low machine.mode machine.brackets read.runs end up
-      stays) fits ready
-
   -- a stretch over which the machine runs
   pub has_run : (end : ℕ) (after : Machine) (new : Writer) → next ≤ end → end ≤ length bytes
-      → run 128 (state machine.mode machine.brackets) (stretch bytes next end) ≡ state after.mode after.brackets
+      → RunsOn machine (stretch bytes next end) after
       → ((text more : List ℕ) → Ready text (writing_at bytes next writer) (stretch bytes next end ++ more)
       → Ready text (writing_at bytes end new) more) → Fits end new
       → HasRead bytes at end after new
@@ -96,8 +86,7 @@ module _ (bytes : List ℕ) (at next : ℕ) (machine : Machine) (writer : Writer
     ran = read_on bytes at next read.low machine.mode machine.brackets read.runs (state after.mode after.brackets) high
         goes
 
-    pub can_put : Can (deed_at (writing_at bytes next writer) (get_or bytes next 0)) (writing_at bytes next writer)
-        (get_or bytes next 0)
+    pub can_put : CanPut bytes next writer
     can_put =
         let b = get_or bytes next 0 in
         let begins = runs_begins 128 (stretch bytes at next ++ b ∷ [])
@@ -111,8 +100,7 @@ module _ (bytes : List ℕ) (at next : ℕ) (machine : Machine) (writer : Writer
         (read.written begins.blank (b ∷ begins.more) v.tree begins.space v.good (ap (λ x. begins.blank ++ x) v.spells
         ∙ sym begins.parts ∙ append_assoc _ (b ∷ []) begins.more)).0
 
-    pub has_put : (new : Writer) → HasPut (deed_at (writing_at bytes next writer) (get_or bytes next 0)) bytes next
-        writer new → HasRead bytes at (next + 1) after new
+    pub has_put : (new : Writer) → IsPut bytes next writer new → HasRead bytes at (next + 1) after new
     has_put new put = onward (next + 1) after new (omega arith) (omega arith) ran put.fits
         (λ text more ready. (subst (λ xs. Ready text (writing_at bytes next writer) (xs ++ more))
         (alone bytes next high) ready).1 (writing_at bytes (next + 1) new) put.done)

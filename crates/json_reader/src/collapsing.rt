@@ -29,11 +29,7 @@ pub(crate) struct MemberPlace {
 /// last value stands at the first one's place. Names are equal where their quotes are. Those of few
 /// members are compared one by one; among many an ordered map finds them, so that no choice of
 /// names makes this slow.
-pub(crate) fn collapse(
-    alloc: Global,
-    text: &mut Vec<u8>,
-    places: &[MemberPlace],
-) -> Result<(), AllocError>
+pub(crate) fn collapse(text: &mut Vec<u8>, places: &[MemberPlace]) -> Result<(), AllocError>
     requires within { AreWithin (length text.old.items) places.now }
     requires written { text.old.items ≡ pairs_text (entries text.old.items places.now) }
     ensures { OnOk result (text.new.items
@@ -42,6 +38,7 @@ pub(crate) fn collapse(
     if places.len() <= FEW_MEMBERS && are_distinct(text.as_slice(), places) {
         return Ok(());
     }
+    let alloc = *text.allocator();
     if let Some(kept) = kept_places(alloc, text.as_slice(), places)? {
         *text = text_of(alloc, text.as_slice(), kept.as_slice())?;
     }

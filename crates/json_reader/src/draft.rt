@@ -164,7 +164,7 @@ impl Draft {
     }
 
     /// Leaves the text that stands between the brackets of the object, each name once.
-    pub(crate) fn close(&mut self, alloc: Global) -> Result<(), AllocError>
+    pub(crate) fn close(&mut self) -> Result<(), AllocError>
         requires { IsWhole self.old }
         ensures { OnOk result (self.new.text ≡ closed self.old) }
     {
@@ -174,7 +174,7 @@ impl Draft {
             end,
         };
         place_member(&mut self.places, self.name, value)?;
-        collapse(alloc, &mut self.text, self.places.as_slice())?;
+        collapse(&mut self.text, self.places.as_slice())?;
         Ok(())
     }
 

@@ -186,7 +186,9 @@ impl Feed {
     }
 }
 
-/// Reads a piece behind the rest of the earlier ones, before which so many bytes were used.
+/// Reads a piece behind the rest of the earlier ones, before which so many bytes were used. Where
+/// memory is wanting, the next reading begins with the rest anew.
+#[tactic(auto, using(crate::proofs::Feeds::behind_on, crate::proofs::Feeds::late_ended, crate::proofs::Feeds::late_refused, crate::proofs::Feeds::fed_steps))]
 fn read_piece(
     reader: &mut ValueReader,
     rest: &mut Vec<u8>,
@@ -204,9 +206,35 @@ fn read_piece(
     ensures unchanged { OnErr result (rest.new.items ≡ rest.old.items) }
 {
     if rest.is_empty() {
-        read_first(reader, rest, piece, used)
-    } else {
-        read_more(reader, rest, piece, used)
+        return read_first(reader, rest, piece, used);
+    }
+    let alloc = *rest.allocator();
+    let before = rest.len();
+    rest.extend_from_slice(piece)?;
+    let bytes = rest.as_slice();
+    match read_on(alloc, reader, bytes) {
+        Ok(Taken::Through(read)) => {
+            *reader = read;
+            let used = piece.len();
+            Ok(Fed { used, value: None })
+        }
+        Ok(Taken::Ended(value, end)) => {
+            rest.clear();
+            Ok(Fed {
+                used: end - before,
+                value: Some(value),
+            })
+        }
+        Ok(Taken::Refused(machine, at)) => {
+            let place = used + (at - before);
+            let fault = machine.fault(Some(bytes[at]), place);
+            rest.truncate(before);
+            Err(Stop::Fault(fault))
+        }
+        Err(_) => {
+            rest.truncate(before);
+            Err(Stop::Memory)
+        }
     }
 }
 
@@ -250,56 +278,6 @@ fn read_first(
     }
 }
 
-/// Reads a further piece of a value, behind the rest. Where memory is wanting, the next reading
-/// begins with the rest anew.
-#[tactic(auto, using(crate::proofs::Feeds::behind_on, crate::proofs::Feeds::late_ended, crate::proofs::Feeds::late_refused, crate::proofs::Feeds::fed_steps))]
-fn read_more(
-    reader: &mut ValueReader,
-    rest: &mut Vec<u8>,
-    piece: &[u8],
-    used: usize,
-) -> Result<Fed, Stop<JsonFault>>
-    requires room { used + length piece.now < 2 ^ 64 }
-    requires some { rest.old.items ≡ [] → ⊥ }
-    requires read { IsRead rest.old.items 0 reader.old }
-    requires kept { IsKept rest.old.items }
-    ensures fed { IfOk result (λ fed. HasFed (behind_space (rest.old.items ++ piece.now)) piece.now
-        rest.new.items fed.used fed.value) }
-    ensures fault { (fault : JsonFault) → result ≡ Err (Stop.Fault fault)
-        → IsRefusedIn (behind_space (rest.old.items ++ piece.now)) (used + length piece.now) fault }
-    ensures read { IsRead rest.new.items 0 reader.new }
-    ensures unchanged { OnErr result (rest.new.items ≡ rest.old.items) }
-{
-    let alloc = *rest.allocator();
-    let before = rest.len();
-    rest.extend_from_slice(piece)?;
-    let bytes = rest.as_slice();
-    match read_on(alloc, reader, bytes) {
-        Ok(Taken::Through(read)) => {
-            *reader = read;
-            let used = piece.len();
-            Ok(Fed { used, value: None })
-        }
-        Ok(Taken::Ended(value, end)) => {
-            rest.clear();
-            Ok(Fed {
-                used: end - before,
-                value: Some(value),
-            })
-        }
-        Ok(Taken::Refused(machine, at)) => {
-            let place = used + (at - before);
-            let fault = machine.fault(Some(bytes[at]), place);
-            rest.truncate(before);
-            Err(Stop::Fault(fault))
-        }
-        Err(_) => {
-            rest.truncate(before);
-            Err(Stop::Memory)
-        }
-    }
-}
-
 /// The value that only the stream's end has ended, of which the rest is all; or the fault there,
 /// with this place.
 #[tactic(auto, using(crate::proofs::Feeds::end_steps))]
@@ -331,5 +309,5 @@ fn read_on(alloc: Global, reader: &mut ValueReader, bytes: &[u8]) -> Result<Take
     ensures came { IfOk result (λ taken. Came bytes.now 0 taken) }
     ensures anew { (any : List ℕ) → IsRead any 0 reader.new }
 {
-    replace(reader, ValueReader::new(alloc, 0)).read(alloc, bytes)
+    replace(reader, ValueReader::new(alloc, 0)).read(bytes)
 }

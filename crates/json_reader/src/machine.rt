@@ -3,15 +3,14 @@
 //! Its state is a mode and the brackets that are open. It takes no memory and can be kept between
 //! calls.
 
-ghost use Rattle.std.specs.Prelude.{◌≡◌, ◌↔◌, ◌-◌, ◌<◌, ◌≤◌, IsTrue, [], false, take, drop, length, slice_index, IfSome};
-ghost use Rattle.std.specs.List.{AllByRecursion};
+ghost use Rattle.std.specs.Prelude.{◌≡◌, ◌↔◌, ◌<◌, ◌≤◌, IsTrue, [], true, length, slice_index, IfSome};
 ghost use Rattle.json_text.specs.Characters.{is_space, is_hex};
 ghost use Rattle.json_text.specs.Tree.{opening, closing};
-ghost use Rattle.json_reader.specs.inner.Machine.{container_of, first_move, closes_bracket, after_comma, after_string, value_begun, after_move, led_on, tail_led, string_move, first_letter, after_letter, moved, string_fault, bracket_fault, fault_of, top, step, state, ended, Stepped};
-ghost use Rattle.json_reader.specs.inner.Runs.{is_over, run};
-ghost use Rattle.json_reader.specs.inner.Writing.{AreAlike, stretch};
-ghost use Rattle.json_reader.specs.declared.machine.Mode.TheVariants.{Quoted};
-ghost use Rattle.json_reader.specs.declared.machine.Move.TheVariants.{To};
+ghost use Rattle.json_text.specs.Value.{extends_number};
+ghost use Rattle.json_reader.specs.inner.Machine.{container_of, first_move, closes_bracket, after_comma, after_string, value_begun, after_move, led_on, tail_led, string_move, first_letter, after_letter, moved, string_fault, bracket_fault, fault_of, top, step, state, ended, HasTaken, Stepped};
+ghost use Rattle.json_reader.specs.inner.Runs.{is_over};
+ghost use Rattle.json_reader.specs.inner.Writing.{HasPassed};
+ghost use Rattle.json_reader.specs.declared.machine.Mode.TheVariants.{Number, Quoted};
 ghost use Rattle.json_reader.specs.declared.machine.Place.TheVariants.{Plain};
 
 use crate::brackets::{Bracket, Brackets};
@@ -145,46 +144,41 @@ impl Machine {
     #[inline(always)]
     pub(crate) fn stay_end(&self, ground: Ground, bytes: &[u8], at: usize) -> usize
         requires { at ≤ length bytes.now }
-        ensures within { (at ≤ result) × (result ≤ length bytes.now) }
-        ensures stays { AllByRecursion (λ b. moved self.now.mode (top self.now.brackets) b
-            ≡ To self.now.mode)
-            (take (result - at) (drop at bytes.now)) }
-        ensures alike { AreAlike ground (take (result - at) (drop at bytes.now)) }
+        ensures { HasPassed ground bytes.now at result self.now self.now }
     {
         stay_end(self.mode, self.brackets.top(), ground, bytes, at)
     }
 
-    /// Takes what is left of a number, if one is under way on this ground: as many bytes from an
-    /// offset on as it goes on with. It gives the offset after them.
-    #[tactic(auto, using(crate::proofs::Numbers::number_steps))]
+    /// Takes a number, or what is left of it, if one may begin or is under way on this ground: as
+    /// many bytes from an offset on as it goes on with. It gives the offset after them.
     #[inline(always)]
     pub(crate) fn pass_number(&mut self, ground: Ground, bytes: &[u8], at: usize) -> usize
-        requires { at ≤ length bytes.now }
-        ensures within { (at ≤ result) × (result ≤ length bytes.now) }
-        ensures ran { run 128 (state self.old.mode self.old.brackets) (stretch bytes.now at result)
-            ≡ state self.new.mode self.new.brackets }
-        ensures alike { AreAlike ground (stretch bytes.now at result) }
+        requires { at < length bytes.now }
+        ensures { HasPassed ground bytes.now at result self.old self.new }
     {
-        let (Ground::Between, Mode::Number(part)) = (ground, self.mode) else {
+        let Ground::Between = ground else {
             return at;
         };
-        let (last, end) = number_end(part, bytes, at);
+        let Some(part) = self.awaited_part(bytes[at]) else {
+            return at;
+        };
+        let (last, end) = number_end(part, bytes, at + 1);
         self.mode = Mode::Number(last);
         end
     }
 
-    /// Takes a quote, if a string begins with it.
+    /// The part that a number comes to with this byte, if one may begin or go on with it here.
     #[inline(always)]
-    pub(crate) fn begin_string(&mut self) -> bool
-        ensures taken { IsTrue result → step 128 self.old.mode self.old.brackets 34
-            ≡ state self.new.mode self.new.brackets }
-        ensures left { result ≡ false → self.new ≡ self.old }
+    fn awaited_part(&self, byte: u8) -> Option<Part>
+        ensures goes { IfSome result (λ part. step 128 self.now.mode self.now.brackets byte
+            ≡ state (Number part) self.now.brackets) }
+        ensures extends { IfSome result (λ part. extends_number byte ≡ true) }
     {
-        let Some(role) = self.awaited_string() else {
-            return false;
-        };
-        self.mode = Mode::Quoted(role, Place::Plain);
-        true
+        match (self.mode, self.brackets.top()) {
+            (Mode::Value, _) | (Mode::Fresh, Some(Bracket::Square)) => Part::begun(byte),
+            (Mode::Number(part), _) => part.after(byte),
+            _ => None,
+        }
     }
 
     /// What a string would be for, if one may begin here.
@@ -206,10 +200,7 @@ impl Machine {
     pub(crate) fn pass_string(&mut self, ground: Ground, bytes: &[u8], at: usize) -> usize
         requires within { at < length bytes.now }
         requires quote { slice_index bytes.now at ≡ 34 }
-        ensures within { (at ≤ result) × (result ≤ length bytes.now) }
-        ensures ran { run 128 (state self.old.mode self.old.brackets) (stretch bytes.now at result)
-            ≡ state self.new.mode self.new.brackets }
-        ensures alike { AreAlike ground (stretch bytes.now at result) }
+        ensures { HasPassed ground bytes.now at result self.old self.new }
     {
         let (Ground::Between, Some(role)) = (ground, self.awaited_string()) else {
             return at;
@@ -227,10 +218,7 @@ impl Machine {
     #[inline(always)]
     pub(crate) fn pass_word(&mut self, ground: Ground, bytes: &[u8], at: usize) -> usize
         requires { at ≤ length bytes.now }
-        ensures within { (at ≤ result) × (result ≤ length bytes.now) }
-        ensures ran { run 128 (state self.old.mode self.old.brackets) (stretch bytes.now at result)
-            ≡ state self.new.mode self.new.brackets }
-        ensures alike { AreAlike ground (stretch bytes.now at result) }
+        ensures { HasPassed ground bytes.now at result self.old self.new }
     {
         let (Ground::Between, Mode::Value, Some(end)) = (ground, self.mode, word_end(bytes, at))
         else {
@@ -242,10 +230,8 @@ impl Machine {
 
     /// Takes a comma behind a value.
     #[inline(always)]
-    pub(crate) fn separate(&mut self) -> bool
-        ensures taken { IsTrue result → step 128 self.old.mode self.old.brackets 44
-            ≡ state self.new.mode self.new.brackets }
-        ensures left { result ≡ false → self.new ≡ self.old }
+    fn separate(&mut self) -> bool
+        ensures { HasTaken self.old 44 result self.new }
     {
         match (self.mode, self.brackets.top()) {
             (
@@ -257,36 +243,14 @@ impl Machine {
         true
     }
 
-    /// Takes a byte with which a part of a number begins, up to its fraction.
-    #[inline(always)]
-    pub(crate) fn begin_part(&mut self, byte: u8) -> bool
-        ensures taken { IsTrue result → step 128 self.old.mode self.old.brackets byte
-            ≡ state self.new.mode self.new.brackets }
-        ensures left { result ≡ false → self.new ≡ self.old }
-    {
-        let part = match (self.mode, self.brackets.top()) {
-            (Mode::Value, _) | (Mode::Fresh, Some(Bracket::Square)) => Part::begun(byte),
-            (Mode::Number(Part::Minus), _) => Part::whole_begun(byte),
-            (Mode::Number(Part::Zero | Part::Whole), _) if byte == b'.' => Some(Part::Dot),
-            (Mode::Number(Part::Dot), _) if byte.is_ascii_digit() => Some(Part::Fraction),
-            _ => None,
-        };
-        match part {
-            Some(part) => self.mode = Mode::Number(part),
-            None => return false,
-        }
-        true
-    }
-
-    /// Takes a letter of a word, a bracket, or a space where a value must come; other bytes it
-    /// leaves.
+    /// Takes a comma, a colon, a bracket, a letter of a word, or a space where a value must come;
+    /// other bytes it leaves.
     #[inline(always)]
     pub(crate) fn follow(&mut self, byte: u8) -> bool
-        ensures taken { IsTrue result → step 128 self.old.mode self.old.brackets byte
-            ≡ state self.new.mode self.new.brackets }
-        ensures left { result ≡ false → self.new ≡ self.old }
+        ensures { HasTaken self.old byte result self.new }
     {
         match byte {
+            b',' => self.separate(),
             b'[' => self.open(Bracket::Square),
             b']' => self.close(Bracket::Square),
             b'{' => self.open(Bracket::Curly),
@@ -295,14 +259,14 @@ impl Machine {
         }
     }
 
-    /// Takes a letter of a word, or a space where a value must come; other bytes it leaves.
+    /// Takes a colon, a letter of a word, or a space where a value must come; other bytes it
+    /// leaves.
     #[inline(always)]
     fn go_on(&mut self, byte: u8) -> bool
-        ensures taken { IsTrue result → step 128 self.old.mode self.old.brackets byte
-            ≡ state self.new.mode self.new.brackets }
-        ensures left { result ≡ false → self.new ≡ self.old }
+        ensures { HasTaken self.old byte result self.new }
     {
         self.mode = match (self.mode, byte) {
+            (Mode::Colon, b':') => Mode::Value,
             (Mode::Word(letters), _) if byte == letters.first() => letters.after(),
             (Mode::Value, b'n') => Mode::Word(Letters::Ull),
             (Mode::Value, b't') => Mode::Word(Letters::Rue),
@@ -316,9 +280,7 @@ impl Machine {
     /// Takes the bracket that opens an array or an object.
     #[inline(always)]
     fn open(&mut self, bracket: Bracket) -> bool
-        ensures taken { IsTrue result → step 128 self.old.mode self.old.brackets
-            (opening (container_of bracket)) ≡ state self.new.mode self.new.brackets }
-        ensures left { result ≡ false → self.new ≡ self.old }
+        ensures { HasTaken self.old (opening (container_of bracket)) result self.new }
     {
         let may_open = match (self.mode, self.brackets.top()) {
             (Mode::Value, _) | (Mode::Fresh, Some(Bracket::Square)) => !self.brackets.is_full(),
@@ -334,9 +296,7 @@ impl Machine {
     /// Takes the bracket that closes an array or an object.
     #[inline(always)]
     fn close(&mut self, bracket: Bracket) -> bool
-        ensures taken { IsTrue result → step 128 self.old.mode self.old.brackets
-            (closing (container_of bracket)) ≡ state self.new.mode self.new.brackets }
-        ensures left { result ≡ false → self.new ≡ self.old }
+        ensures { HasTaken self.old (closing (container_of bracket)) result self.new }
     {
         let may_close = match (bracket, self.brackets.top()) {
             (Bracket::Square, Some(Bracket::Square)) | (Bracket::Curly, Some(Bracket::Curly)) => {
@@ -354,34 +314,6 @@ impl Machine {
             self.mode = Mode::After;
         }
         may_close
-    }
-
-    /// Takes the end of a string between two characters; other bytes it leaves.
-    #[inline(always)]
-    pub(crate) fn end_string(&mut self, byte: u8) -> bool
-        ensures taken { IsTrue result → step 128 self.old.mode self.old.brackets byte
-            ≡ state self.new.mode self.new.brackets }
-        ensures left { result ≡ false → self.new ≡ self.old }
-    {
-        let (Mode::Quoted(role, Place::Plain), b'"') = (self.mode, byte) else {
-            return false;
-        };
-        self.mode = after_string(role);
-        true
-    }
-
-    /// Takes the colon behind a name; other bytes it leaves.
-    #[inline(always)]
-    pub(crate) fn end_name(&mut self, byte: u8) -> bool
-        ensures taken { IsTrue result → step 128 self.old.mode self.old.brackets byte
-            ≡ state self.new.mode self.new.brackets }
-        ensures left { result ≡ false → self.new ≡ self.old }
-    {
-        let (Mode::Colon, b':') = (self.mode, byte) else {
-            return false;
-        };
-        self.mode = Mode::Value;
-        true
     }
 
     /// The value may end here: white space would end it too.

@@ -77,7 +77,7 @@ impl Part {
 
     /// The part that this byte begins the whole number with.
     #[inline(always)]
-    pub(crate) fn whole_begun(byte: u8) -> Option<Part>
+    fn whole_begun(byte: u8) -> Option<Part>
         ensures { result ≡ part_after Part.Minus byte }
     {
         match byte {

@@ -24,7 +24,7 @@ pub fn scan(alloc: Global, bytes: &[u8], at: usize) -> Result<(Raw, usize), Stop
     ensures fault { (fault : JsonFault) → result ≡ Err (Stop.Fault fault)
         → IsFirstFault bytes.now at fault }
 {
-    match ValueReader::new(alloc, at).read(alloc, bytes)? {
+    match ValueReader::new(alloc, at).read(bytes)? {
         Taken::Through(reader) => Ok((reader.finish(bytes, bytes.len())?, bytes.len())),
         Taken::Ended(value, end) => Ok((value, end)),
         Taken::Refused(machine, next) => {

@@ -1,15 +1,13 @@
 //! Stretches of bytes that leave the machine as it is.
 
-ghost use Rattle.std.specs.Prelude.{◌≡◌, ◌+◌, ◌-◌, ◌≤◌, take, drop, length};
-ghost use Rattle.std.specs.List.{AllByRecursion, prefix_len};
-ghost use Rattle.json_text.specs.Characters.{is_digit};
+ghost use Rattle.std.specs.Prelude.{◌≡◌, ◌-◌, ◌≤◌, take, drop, length};
+ghost use Rattle.std.specs.List.{AllByRecursion};
 ghost use Rattle.json_reader.specs.inner.Machine.{moved};
 ghost use Rattle.json_reader.specs.inner.Writing.{AreAlike};
 ghost use Rattle.json_reader.specs.declared.machine.Move.TheVariants.{To};
 
 use crate::brackets::Bracket;
 use crate::machine::{Mode, Place};
-use crate::number::Part;
 use json_text::{bare_end, skip_space};
 
 /// What stands around a stretch.
@@ -22,7 +20,7 @@ pub(crate) enum Ground {
 }
 
 /// Where a stretch from `at` on ends whose bytes all leave the mode as it is: plain characters of a
-/// string, or digits of a number or white space outside strings.
+/// string, or white space outside strings.
 #[inline(always)]
 pub(crate) fn stay_end(
     mode: Mode,
@@ -39,24 +37,8 @@ pub(crate) fn stay_end(
 {
     match (ground, mode) {
         (Ground::Quoted, Mode::Quoted(_, Place::Plain)) => bare_end(bytes, at),
-        (Ground::Between, Mode::Number(Part::Whole | Part::Fraction | Part::Exponent)) => {
-            skip_digits(bytes, at)
-        }
         (Ground::Between, Mode::Value | Mode::Name | Mode::Colon) => skip_space(bytes, at),
         (Ground::Between, Mode::Fresh | Mode::After) if top.is_some() => skip_space(bytes, at),
         _ => at,
     }
-}
-
-/// The offset of the first byte from `at` on that isn't a digit.
-fn skip_digits(bytes: &[u8], at: usize) -> usize
-    requires { at ≤ length bytes.now }
-    ensures { result ≡ at + prefix_len is_digit (drop at bytes.now) }
-{
-    for i in at..bytes.len() {
-        if !bytes[i].is_ascii_digit() {
-            return i;
-        }
-    }
-    bytes.len()
 }

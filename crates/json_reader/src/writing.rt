@@ -5,9 +5,9 @@
 //! of equal names in an object the last value is kept.
 
 ghost use Rattle.std.specs.Prelude.{◌≡◌, ℕ, ◌+◌, ◌<◌, ◌≤◌, List, [], ◌++◌, true, false, length, slice_index, IfOk, OnOk};
-ghost use Rattle.json_text.specs.Walk.{outside, inside};
+ghost use Rattle.json_text.specs.Walk.{outside};
 ghost use Rattle.json_reader.specs.inner.Drafts.{fresh, grown};
-ghost use Rattle.json_reader.specs.inner.Writing.{between, deed, deed_at, stretch, copied, ground_of, writing_at, AreAlike, Can, Fits, HasPut, Ready};
+ghost use Rattle.json_reader.specs.inner.Writing.{between, deed, stretch, copied, ground_of, writing_at, AreAlike, Can, CanPut, Fits, HasPut, IsBetween, IsPut, Ready};
 ghost use Rattle.json_reader.specs.declared.writing.Deed.TheVariants.{Skip, Begin, Finish, Open, Shut, Name, Part, Deepen, Rise, Push};
 
 use crate::draft::Draft;
@@ -102,28 +102,17 @@ impl Writer {
 
     /// Takes the byte at an offset.
     #[inline(always)]
-    pub(crate) fn put(
-        &mut self,
-        alloc: Global,
-        bytes: &[u8],
-        next: usize,
-        byte: u8,
-    ) -> Result<(), AllocError>
+    pub(crate) fn put(&mut self, bytes: &[u8], next: usize, byte: u8) -> Result<(), AllocError>
         requires within { next < length bytes.now }
         requires byte { slice_index bytes.now next ≡ byte }
         requires fits { Fits next self.old }
-        requires can { Can (deed_at (writing_at bytes.now next self.old)
-            (slice_index bytes.now next))
-            (writing_at bytes.now next self.old) (slice_index bytes.now next) }
-        ensures { OnOk result
-            (HasPut (deed_at (writing_at bytes.now next self.old) (slice_index bytes.now next))
-            bytes.now next
-            self.old self.new) }
+        requires can { CanPut bytes.now next self.old }
+        ensures { OnOk result (IsPut bytes.now next self.old self.new) }
     {
         if self.quoted {
-            self.put_quoted(alloc, bytes, next, byte)
+            self.put_quoted(bytes, next, byte)
         } else {
-            self.put_between(alloc, bytes, next, byte)
+            self.put_between(bytes, next, byte)
         }
     }
 
@@ -188,31 +177,20 @@ impl Writer {
     /// Takes a byte in a string.
     #[tactic(auto, using(crate::proofs::Copying::string_steps))]
     #[inline(always)]
-    fn put_quoted(
-        &mut self,
-        alloc: Global,
-        bytes: &[u8],
-        next: usize,
-        byte: u8,
-    ) -> Result<(), AllocError>
+    fn put_quoted(&mut self, bytes: &[u8], next: usize, byte: u8) -> Result<(), AllocError>
         requires quoted { self.old.quoted ≡ true }
         requires within { next < length bytes.now }
         requires byte { slice_index bytes.now next ≡ byte }
         requires fits { Fits next self.old }
-        requires can { Can (deed (inside self.old.escaped) self.old.here.level
-            (slice_index bytes.now next))
-            (writing_at bytes.now next self.old) (slice_index bytes.now next) }
-        ensures { OnOk result
-            (HasPut (deed (inside self.old.escaped) self.old.here.level
-            (slice_index bytes.now next))
-            bytes.now next self.old self.new) }
+        requires can { CanPut bytes.now next self.old }
+        ensures { OnOk result (IsPut bytes.now next self.old self.new) }
     {
         if self.escaped {
             self.escaped = false;
             return Ok(());
         }
         match byte {
-            b'"' if self.escapes => self.quote(alloc, bytes, next)?,
+            b'"' if self.escapes => self.quote(bytes, next)?,
             b'"' => self.quoted = false,
             b'\\' => {
                 self.escaped = true;
@@ -225,30 +203,19 @@ impl Writer {
 
     /// Takes a byte outside strings.
     #[inline(always)]
-    fn put_between(
-        &mut self,
-        alloc: Global,
-        bytes: &[u8],
-        next: usize,
-        byte: u8,
-    ) -> Result<(), AllocError>
-        requires apart { self.old.quoted ≡ false }
-        requires within { next < length bytes.now }
+    fn put_between(&mut self, bytes: &[u8], next: usize, byte: u8) -> Result<(), AllocError>
+        requires between { IsBetween bytes.now next self.old }
         requires byte { slice_index bytes.now next ≡ byte }
-        requires fits { Fits next self.old }
-        requires can { Can (deed outside self.old.here.level (slice_index bytes.now next))
-            (writing_at bytes.now next self.old) (slice_index bytes.now next) }
-        ensures { OnOk result (HasPut
-            (deed outside self.old.here.level (slice_index bytes.now next))
-            bytes.now next self.old self.new) }
+        requires can { CanPut bytes.now next self.old }
+        ensures { OnOk result (IsPut bytes.now next self.old self.new) }
     {
         match deed_between(self.here.level(), byte) {
             Deed::Begin => {
                 self.begin(next);
                 Ok(())
             }
-            Deed::Open => self.open(alloc, bytes, next),
-            Deed::Shut => self.shut(alloc, bytes, next),
+            Deed::Open => self.open(bytes, next),
+            Deed::Shut => self.shut(bytes, next),
             Deed::Name => {
                 self.end_name(bytes, next);
                 Ok(())
@@ -270,9 +237,7 @@ impl Writer {
     /// White space is dropped.
     #[inline(never)]
     fn skip(&mut self, bytes: &[u8], next: usize) -> Result<(), AllocError>
-        requires apart { self.old.quoted ≡ false }
-        requires within { next < length bytes.now }
-        requires fits { Fits next self.old }
+        requires { IsBetween bytes.now next self.old }
         ensures { OnOk result (HasPut Skip bytes.now next self.old self.new) }
     {
         self.copy(bytes, next)?;
@@ -282,9 +247,7 @@ impl Writer {
 
     /// A string begins.
     fn begin(&mut self, next: usize)
-        requires apart { self.old.quoted ≡ false }
-        requires fits { Fits next self.old }
-        ensures { (bytes : List ℕ) → next < length bytes
+        ensures { (bytes : List ℕ) → IsBetween bytes next self.old
             → HasPut Begin bytes next self.old self.new }
     {
         self.quoted = true;
@@ -295,7 +258,7 @@ impl Writer {
 
     /// A string ends that has an escape. It is quoted anew.
     #[inline(never)]
-    fn quote(&mut self, alloc: Global, bytes: &[u8], next: usize) -> Result<(), AllocError>
+    fn quote(&mut self, bytes: &[u8], next: usize) -> Result<(), AllocError>
         requires quoted { self.old.quoted ≡ true }
         requires within { next < length bytes.now }
         requires fits { Fits next self.old }
@@ -304,7 +267,7 @@ impl Writer {
         ensures { OnOk result (HasPut Finish bytes.now next self.old self.new) }
     {
         self.copy(bytes, self.start)?;
-        let (text, _end) = content_of(alloc, bytes, self.start)?;
+        let (text, _end) = content_of(*self.around.allocator(), bytes, self.start)?;
         self.here.push_quote(&text)?;
         self.from = next + 1;
         self.quoted = false;
@@ -315,14 +278,12 @@ impl Writer {
     /// An object is opened.
     #[tactic(auto, using(crate::proofs::Copying::later_steps))]
     #[inline(never)]
-    fn open(&mut self, alloc: Global, bytes: &[u8], next: usize) -> Result<(), AllocError>
-        requires apart { self.old.quoted ≡ false }
-        requires within { next < length bytes.now }
-        requires fits { Fits next self.old }
+    fn open(&mut self, bytes: &[u8], next: usize) -> Result<(), AllocError>
+        requires { IsBetween bytes.now next self.old }
         ensures { OnOk result (HasPut Open bytes.now next self.old self.new) }
     {
         self.copy(bytes, next + 1)?;
-        let inner = unused(alloc, &mut self.spare)?;
+        let inner = unused(&mut self.spare)?;
         let outer = replace(&mut self.here, inner);
         self.around.push(outer)?;
         Ok(())
@@ -331,10 +292,8 @@ impl Writer {
     /// An object is closed.
     #[tactic(auto, using(crate::proofs::Copying::shut_steps))]
     #[inline(never)]
-    fn shut(&mut self, alloc: Global, bytes: &[u8], next: usize) -> Result<(), AllocError>
-        requires apart { self.old.quoted ≡ false }
-        requires within { next < length bytes.now }
-        requires fits { Fits next self.old }
+    fn shut(&mut self, bytes: &[u8], next: usize) -> Result<(), AllocError>
+        requires between { IsBetween bytes.now next self.old }
         requires can { Can Shut (writing_at bytes.now next self.old) (slice_index bytes.now next) }
         ensures { OnOk result (HasPut Shut bytes.now next self.old self.new) }
     {
@@ -343,7 +302,7 @@ impl Writer {
             unreachable!()
         };
         let mut inner = replace(&mut self.here, outer);
-        inner.close(alloc)?;
+        inner.close()?;
         self.here.append(&mut inner)?;
         if inner.is_small() {
             self.spare.push(inner)?;
@@ -354,9 +313,7 @@ impl Writer {
     /// The name of a member ends.
     #[tactic(auto, using(crate::proofs::Copying::later_steps))]
     fn end_name(&mut self, bytes: &[u8], next: usize)
-        requires apart { self.old.quoted ≡ false }
-        requires within { next < length bytes.now }
-        requires fits { Fits next self.old }
+        requires { IsBetween bytes.now next self.old }
         ensures { HasPut Name bytes.now next self.old self.new }
     {
         self.here.end_name(&bytes[self.from..next]);
@@ -365,9 +322,7 @@ impl Writer {
     /// A member ends.
     #[tactic(auto, using(crate::proofs::Copying::later_steps))]
     fn end_member(&mut self, bytes: &[u8], next: usize) -> Result<(), AllocError>
-        requires apart { self.old.quoted ≡ false }
-        requires within { next < length bytes.now }
-        requires fits { Fits next self.old }
+        requires { IsBetween bytes.now next self.old }
         ensures { OnOk result (HasPut Part bytes.now next self.old self.new) }
     {
         self.here.end_member(&bytes[self.from..next])?;
@@ -377,9 +332,7 @@ impl Writer {
     /// An array is opened.
     #[tactic(auto, using(crate::proofs::Copying::later_steps))]
     fn deepen(&mut self) -> Result<(), AllocError>
-        requires { self.old.quoted ≡ false }
-        ensures { OnOk result ((bytes : List ℕ) (next : ℕ) → next < length bytes
-            → Fits next self.old
+        ensures { OnOk result ((bytes : List ℕ) (next : ℕ) → IsBetween bytes next self.old
             → HasPut Deepen bytes next self.old self.new) }
     {
         self.here.deepen()?;
@@ -389,8 +342,7 @@ impl Writer {
     /// An array is closed.
     #[tactic(auto, using(crate::proofs::Copying::later_steps))]
     fn rise(&mut self)
-        requires { self.old.quoted ≡ false }
-        ensures { (bytes : List ℕ) (next : ℕ) → next < length bytes → Fits next self.old
+        ensures { (bytes : List ℕ) (next : ℕ) → IsBetween bytes next self.old
             → HasPut Rise bytes next self.old self.new }
     {
         self.here.rise();
@@ -399,8 +351,7 @@ impl Writer {
     /// A byte is to be appended as it stands.
     #[tactic(auto, using(crate::proofs::Copying::later_steps))]
     fn push(&mut self)
-        requires { self.old.quoted ≡ false }
-        ensures { (bytes : List ℕ) (next : ℕ) → next < length bytes → Fits next self.old
+        ensures { (bytes : List ℕ) (next : ℕ) → IsBetween bytes next self.old
             → HasPut Push bytes next self.old self.new }
     {}
 
@@ -416,7 +367,7 @@ impl Writer {
 }
 
 /// A draft of which nothing is written, with the room of a spare one if there is one.
-fn unused(alloc: Global, spare: &mut Vec<Draft>) -> Result<Draft, AllocError>
+fn unused(spare: &mut Vec<Draft>) -> Result<Draft, AllocError>
     ensures { IfOk result (λ draft. draft ≡ fresh) }
 {
     match spare.pop() {
@@ -424,7 +375,7 @@ fn unused(alloc: Global, spare: &mut Vec<Draft>) -> Result<Draft, AllocError>
             draft.clear();
             Ok(draft)
         }
-        None => Draft::of_object(alloc),
+        None => Draft::of_object(*spare.allocator()),
     }
 }
 

@@ -280,8 +280,17 @@ abbrev pub fault_of : Mode → Option Bracket → Option ℕ → ℕ → JsonFau
 fault_of (Quoted r place) top byte n = string_fault place byte n
 fault_of m top byte n = bracket_fault m top byte n
 
+-- The machine goes on over this byte.
+abbrev pub GoesOn : Machine → ℕ → Machine → Type 0
+GoesOn old b new = step 128 old.mode old.brackets b ≡ state new.mode new.brackets
+
+-- What the code said of a byte: taken, or left.
+pub record HasTaken (old : Machine) (b : ℕ) (result : Bool) (new : Machine) : Type 0 where
+  pub taken : result ≡ true → GoesOn old b new
+  pub left : result ≡ false → new ≡ old
+
 -- What a step of the code said: gone on, the value has ended before the byte, or refused.
 abbrev pub Stepped : Machine → Machine → Progress → ℕ → Type 0
-Stepped old new On b = step 128 old.mode old.brackets b ≡ state new.mode new.brackets
+Stepped old new On b = GoesOn old b new
 Stepped old new Ended b = (step 128 old.mode old.brackets b ≡ ended b) × (new ≡ old)
 Stepped old new Refused b = (step 128 old.mode old.brackets b ≡ refused) × (new ≡ old)

@@ -1,7 +1,7 @@
 -- Runs of the machine. Only contracts of private functions cite this.
 use Rattle.std.specs.Prelude.{◌≡◌, ℕ, List, [], ◌∷◌, Bool, true, false}
 use Rattle.json_reader.specs.Feeding.{behind_space}
-use Rattle.json_reader.specs.inner.Machine.{Bracket, Mode, After, Fresh, Outcome, state, ended, refused, step}
+use Rattle.json_reader.specs.inner.Machine.{Bracket, Machine, Mode, After, Fresh, Outcome, state, ended, refused, step}
 
 -- what comes of a byte more, where at most so many brackets may be open
 abbrev pub go : ℕ → Outcome → ℕ → Outcome
@@ -17,6 +17,10 @@ run limit from (b ∷ bytes) = run limit (go limit from b) bytes
 -- a value must come, and no bracket is open
 abbrev pub start : Outcome
 start = state Mode.Value []
+
+-- The machine goes on over these bytes.
+abbrev pub RunsOn : Machine → List ℕ → Machine → Type 0
+RunsOn old bytes new = run 128 (state old.mode old.brackets) bytes ≡ state new.mode new.brackets
 
 -- The value has ended, whatever follows: no bracket is open, and it is no scalar that is under way.
 abbrev pub is_over : Mode → List Bracket → Bool

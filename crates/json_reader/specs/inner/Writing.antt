@@ -9,7 +9,8 @@ use Rattle.json_text.specs.Tree.{Tree, IsGood, IsWord, spelling}
 use Rattle.json_text.specs.Value.{Stands, extends_number}
 use Rattle.json_reader.specs.inner.Drafts.{Drafted, fresh, grown, named, parted, closed, IsWhole}
 use Rattle.json_reader.specs.inner.Machine.{Bracket, JsonFault, Machine, Mode, state, ended, refused, top, step, fault_of}
-use Rattle.json_reader.specs.inner.Runs.{run, start, is_over, IsKept}
+use Rattle.json_reader.specs.inner.Runs.{run, start, is_over, IsKept, RunsOn}
+pub use Rattle.json_reader.specs.declared.reader.Reading.{Reading}
 pub use Rattle.json_reader.specs.declared.reader.ValueReader.{ValueReader}
 use Rattle.json_reader.specs.declared.reader.Taken.{Taken}
 use Rattle.json_reader.specs.declared.reader.Taken.TheVariants as taken
@@ -55,6 +56,12 @@ writing_at bytes next w = record {
 pub record Fits (next : ℕ) (w : Writer) : Type 0 where
   pub from : w.from ≤ kept_to next w
   pub to : kept_to next w ≤ next
+
+-- The writer stands outside strings before an offset of these bytes.
+pub record IsBetween (bytes : List ℕ) (next : ℕ) (w : Writer) : Type 0 where
+  pub within : next < length bytes
+  pub apart : w.quoted ≡ false
+  pub fits : Fits next w
 
 -- what is done with a byte, where so many arrays are open in the innermost object
 abbrev pub deed : Place → ℕ → ℕ → Deed
@@ -134,11 +141,22 @@ AreAlike ground.Between bytes = AllByRecursion (λ b. is_space b ≡ true) bytes
 abbrev pub copied : List ℕ → ℕ → Writer → Writer
 copied bytes to w = record w { here = grown w.here (stretch bytes w.from to); from = to }
 
--- what comes of the byte at an offset
+-- what comes of the byte at an offset, with which this is done
 pub record HasPut (d : Deed) (bytes : List ℕ) (next : ℕ) (old new : Writer) : Type 0 where
   pub done : Done d (writing_at bytes next old) (slice_index bytes next)
       (writing_at bytes (next + 1) new)
   pub fits : Fits (next + 1) new
+
+-- what it takes of the byte at an offset
+abbrev pub CanPut : List ℕ → ℕ → Writer → Type 0
+CanPut bytes next w =
+    Can (deed_at (writing_at bytes next w) (slice_index bytes next)) (writing_at bytes next w)
+    (slice_index bytes next)
+
+-- what comes of it
+abbrev pub IsPut : List ℕ → ℕ → Writer → Writer → Type 0
+IsPut bytes next old new =
+    HasPut (deed_at (writing_at bytes next old) (slice_index bytes next)) bytes next old new
 
 -- Each of these bytes may be taken, and however they are, this text and nothing else is written
 -- then.
@@ -162,20 +180,27 @@ pub record HasRead (bytes : List ℕ) (at next : ℕ) (machine : Machine) (write
   pub fits : Fits next writer
   pub written : HasWritten (stretch bytes at next) (writing_at bytes next writer)
 
--- A step takes the machine on over this byte.
-abbrev pub GoesOn : Machine → ℕ → Machine → Type 0
-GoesOn before byte machine =
-    step 128 before.mode before.brackets byte ≡ state machine.mode machine.brackets
+-- The bytes before an offset are read and written, from some offset on.
+abbrev pub IsReadTo : List ℕ → ℕ → Reading → Type 0
+IsReadTo bytes next r = (at : ℕ) × HasRead bytes at next r.machine r.writer
 
 -- Wherever the bytes were read from on: what was read up to an offset is read up to a later one.
-abbrev pub ReadsOn : List ℕ → ℕ → Machine → Writer → ℕ → Machine → Writer → Type 0
-ReadsOn bytes next machine writer end after written =
-    (next ≤ end) × (end ≤ length bytes) × ((at : ℕ) → HasRead bytes at next machine writer
-    → HasRead bytes at end after written)
+abbrev pub ReadsOn : List ℕ → ℕ → Reading → ℕ → Reading → Type 0
+ReadsOn bytes next old end new =
+    (next ≤ end) × (end ≤ length bytes) × ((at : ℕ) → HasRead bytes at next old.machine old.writer
+    → HasRead bytes at end new.machine new.writer)
+
+-- The machine has gone on over the bytes between two offsets, which are taken together on this
+-- ground.
+pub record HasPassed (ground : Ground) (bytes : List ℕ) (at end : ℕ) (old new : Machine) :
+    Type 0 where
+  pub within : (at ≤ end) × (end ≤ length bytes)
+  pub ran : RunsOn old (stretch bytes at end) new
+  pub alike : AreAlike ground (stretch bytes at end)
 
 -- what a reader has read of these bytes from an offset on
 abbrev pub IsRead : List ℕ → ℕ → ValueReader → Type 0
-IsRead bytes at reader = HasRead bytes at reader.next reader.machine reader.writer
+IsRead bytes at reader = HasRead bytes at reader.next reader.reading.machine reader.reading.writer
 
 -- The value has ended before these bytes, or ends before white space where there are none.
 abbrev pub Ends : Mode → List Bracket → List ℕ → Type 0
@@ -191,7 +216,7 @@ pub record EndsAt (bytes : List ℕ) (at end : ℕ) : Type 0 where
 -- what came of reading on in these bytes, which were read from an offset on
 abbrev pub Came : List ℕ → ℕ → Taken → Type 0
 Came bytes at (taken.Through reader) = IsRead bytes at reader × (reader.next ≡ length bytes)
-    × (is_over reader.machine.mode reader.machine.brackets ≡ false)
+    × (is_over reader.reading.machine.mode reader.reading.machine.brackets ≡ false)
 Came bytes at (taken.Ended value end) = (at ≤ end) × (end ≤ length bytes) × EndsAt bytes at end
     × Stands (drop at bytes) value (drop end bytes)
 Came bytes at (taken.Refused machine next) =

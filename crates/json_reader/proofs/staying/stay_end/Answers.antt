@@ -1,7 +1,6 @@
-use Rattle.std.proofs.Common.{◌≡◌, true, inl, inr, arith}
+use Rattle.std.proofs.Common.{◌≡◌, true, inl, arith}
 use Rattle.std.proofs.lemmas.Bool.Decides.{nat_tests}
-use Rattle.json_text.specs.Characters.{is_space, is_digit, is_plain, is_bare}
-use Rattle.json_text.specs.Value.{extends_number}
+use Rattle.json_text.specs.Characters.{is_space, is_plain, is_bare}
 use Rattle.json_text.proofs.CallerLemmas.{passed_within, passed_all}
 use Rattle.json_reader.proofs.staying.stay_end.Goals as goal
 
@@ -11,14 +10,6 @@ returns-in-Quoted-Quoted-default-Plain c = record {
   stays = passed_all is_bare _ (λ b is. grind (arith, nat_tests)) _ _ _ c.bare_end.ensures.value;
   alike = rw c.in-Quoted-Quoted-default-Plain.is-0
       (passed_all is_bare (λ b. is_plain b ≡ true) (λ b is. grind (arith, nat_tests)) _ _ _ c.bare_end.ensures.value);
-}
-
-pub returns-in-Between-Number-Whole : goal.returns-in-Between-Number-Whole
-returns-in-Between-Number-Whole c = record {
-  within = passed_within is_digit _ _ _ c.requires c.skip_digits.ensures;
-  stays = passed_all is_digit _ (λ b is. grind (arith, nat_tests)) _ _ _ c.skip_digits.ensures;
-  alike = rw c.in-Between-Number-Whole.is-0 (inr (inl (passed_all is_digit (λ b. extends_number b ≡ true)
-      (λ b is. grind (arith, nat_tests)) _ _ _ c.skip_digits.ensures)));
 }
 
 pub returns-in-Between-Value : goal.returns-in-Between-Value

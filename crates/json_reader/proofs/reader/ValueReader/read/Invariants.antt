@@ -3,7 +3,7 @@ use Rattle.json_reader.specs.inner.Writing.{ReadsOn}
 use Rattle.json_reader.proofs.reader.ValueReader.read.Given as goal
 
 abbrev pub invariant-loop-next : goal.invariant-loop-next
-invariant-loop-next l = ReadsOn l.bytes l.fn.self.next l.fn.self.machine l.fn.self.writer l.next l.machine l.writer
+invariant-loop-next l = ReadsOn l.bytes l.fn.self.next l.fn.self.reading l.next l.reading
 
 abbrev pub decreases-loop-next : goal.decreases-loop-next
 decreases-loop-next l = length l.bytes - l.next

@@ -1,7 +1,0 @@
-use Rattle.std.proofs.Common.{◌≡◌, ◌+◌, drop}
-use Rattle.std.specs.List.{prefix_len}
-use Rattle.json_text.specs.Characters.{is_digit}
-use Rattle.json_reader.proofs.staying.skip_digits.Given as goal
-
-abbrev pub invariant-loop-i : goal.invariant-loop-i
-invariant-loop-i l = l.at + prefix_len is_digit (drop l.at l.bytes) ≡ l.i + prefix_len is_digit (drop l.i l.bytes)
