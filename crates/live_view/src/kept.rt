@@ -1,12 +1,8 @@
 //! Live elements, and what is shown of them.
 
-ghost use Rattle.std.specs.Prelude.{◌≡◌, List as Items, [], IfOk, map, IsPermutation};
-ghost use Rattle.elem.specs.ElementValue.{ElementValue};
-ghost use Rattle.elem_store.specs.Updates.{ids_of};
+ghost use Rattle.std.specs.Prelude.{◌≡◌, [], IfOk};
 ghost use Rattle.view.specs.Kept.{AreOthersAsStored, AreOthersKeyedAsStored, HaveRowsOf};
-ghost use Rattle.view.specs.Settled.{AreSettled};
-ghost use Rattle.index_repair.specs.Keyed.{HaveRisingKeys};
-ghost use Rattle.view.specs.Shown.{live_elements, shown, bare, IsSceneOrder};
+ghost use Rattle.view.specs.Shown.{shown, IsView};
 ghost use Rattle.live_view.specs.inner.Replacing.{IsLiveView};
 
 use crate::drawing::table_of;
@@ -103,15 +99,7 @@ impl Kept {
 
     /// What is shown.
     pub(crate) fn elements(&self) -> &[SharedElement]
-        ensures exact { result.now ≡ shown self.now }
-        ensures keys { HaveRisingKeys result.now }
-        ensures order { (ordered : Items ElementValue) × IsSceneOrder self.now ordered
-            × (ids_of result.now ≡ ids_of ordered) }
-        ensures ids { IsPermutation (ids_of self.now) (ids_of result.now) }
-        ensures others { IsPermutation (map bare self.now) (map bare result.now) }
-        ensures settled { AreSettled result.now }
-        ensures again { (stored : Items ElementValue) → IsPermutation result.now stored
-            → shown (live_elements stored) ≡ result.now }
+        ensures { IsView self.now result.now }
     {
         self.shown.as_slice()
     }
