@@ -10,15 +10,13 @@ ghost use Rattle.elem_store.specs.Updates.{ids_of};
 ghost use Rattle.index_repair.specs.Keyed.{with_index};
 ghost use Rattle.view.specs.Shown.{comes_before, is_live};
 ghost use Rattle.live_view.specs.inner.Coming.{all_stored, rekeyed, AreAround, ArePutBeside, HasGone, IsComing, IsGoing, IsPlaceFor};
-ghost use Rattle.live_view.specs.inner.Reached.{AreIds};
-ghost use Rattle.view.specs.Kept.{HaveRowsOf};
 ghost use Rattle.live_view.specs.inner.Replacing.{HaveReplaced};
 
 use crate::ids::Ids;
 use crate::kept::{Kept, Parts, joined};
 use crate::order::scene_order;
 use crate::places::{Put, order_of, place_of, place_shown, put_all, replace};
-use crate::reach::{add_all_namers, is_much, reached, started_by, surrounded};
+use crate::reach::{Board, add_all_namers, is_much, reached, started_by, surrounded};
 use crate::replacing::{puts_near, settled_after, with_index};
 use crate::runs::{Rekeying, keys_with, keys_without, stored_of};
 use crate::sharing::shared_as;
@@ -27,7 +25,7 @@ use board_base::List;
 use elem::{Element, SharedElement};
 use frac_keys::Key;
 use json_text::Text;
-use links::{LinkTable, rows_of};
+use links::rows_of;
 use std::alloc::{AllocError, Global};
 
 /// What is shown anew where an element comes: itself, and what is near it, at the places where it
@@ -70,7 +68,11 @@ impl Kept {
         let Some(rekeying) = keys_with(alloc, &live, &shown, place, index)? else {
             return Ok(None);
         };
-        let Some(coming) = draw_coming(alloc, &live, &shown, &table, e)? else {
+        let board = Board {
+            live: &live,
+            table: &table,
+        };
+        let Some(coming) = draw_coming(alloc, board, &shown, e)? else {
             return Ok(None);
         };
         let Coming { own, puts } = coming;
@@ -110,7 +112,11 @@ impl Kept {
         let Some(rekeying) = keys_without(alloc, &live, &shown, place)? else {
             return Ok(None);
         };
-        let Some(puts) = draw_going(alloc, &live, &shown, &table, &e)? else {
+        let board = Board {
+            live: &live,
+            table: &table,
+        };
+        let Some(puts) = draw_going(alloc, board, &shown, &e)? else {
             return Ok(None);
         };
         let rows = rows_of(alloc, e.get())?;
@@ -176,26 +182,23 @@ fn comes_ahead(
 /// What is shown anew where an element comes, if all of it is found and it isn't much.
 fn draw_coming(
     alloc: Global,
-    live: &Vec<SharedElement>,
+    board: Board<'_>,
     shown: &Vec<SharedElement>,
-    table: &LinkTable,
     e: &SharedElement,
 ) -> Result<Option<Coming>, AllocError>
-    requires ordered { are_rising (ids_of live.now.items) ≡ true }
-    requires table { HaveRowsOf live.now.items table.now.rows }
     ensures { IfOk result (λ found. IfSome found
-        (λ c. IsComing live.now.items shown.now.items e.now c.own c.puts.items)) }
+        (λ c. IsComing board.entry.live.now.items shown.now.items e.now c.own c.puts.items)) }
 {
-    let Some(around) = find_around(alloc, live, table, e)? else {
+    let Some(around) = find_around(alloc, board, e)? else {
         return Ok(None);
     };
     let news = alone(alloc, e)?;
-    let part = settled_after(alloc, live, &news, &around.wide.list)?;
+    let part = settled_after(alloc, board.live, &news, &around.wide)?;
     let Some(own) = element_in(&part, e.id())? else {
         return Ok(None);
     };
     let own = shared_as(alloc, e, own)?;
-    match puts_beside(alloc, live, shown, part, &around.near, e.id())? {
+    match puts_beside(alloc, board.live, shown, part, &around.near, e.id())? {
         Some(puts) => Ok(Some(Coming { own, puts })),
         None => Ok(None),
     }
@@ -204,48 +207,39 @@ fn draw_coming(
 /// What is shown anew where an element goes, if all of it is found and it isn't much.
 fn draw_going(
     alloc: Global,
-    live: &Vec<SharedElement>,
+    board: Board<'_>,
     shown: &Vec<SharedElement>,
-    table: &LinkTable,
     e: &SharedElement,
 ) -> Result<Option<Vec<Put>>, AllocError>
-    requires ordered { are_rising (ids_of live.now.items) ≡ true }
-    requires table { HaveRowsOf live.now.items table.now.rows }
     ensures { IfOk result
-        (λ found. IfSome found (λ puts. IsGoing live.now.items shown.now.items e.now puts.items)) }
+        (λ found. IfSome found
+        (λ puts. IsGoing board.entry.live.now.items shown.now.items e.now puts.items)) }
 {
-    let Some(around) = find_around(alloc, live, table, e)? else {
+    let Some(around) = find_around(alloc, board, e)? else {
         return Ok(None);
     };
     let others = around.wide.without(alloc, e.id())?;
-    let part = settled_after(alloc, live, &Vec::new(alloc), &others.list)?;
-    puts_beside(alloc, live, shown, part, &around.near, e.id())
+    let part = settled_after(alloc, board.live, &Vec::new(alloc), &others)?;
+    puts_beside(alloc, board.live, shown, part, &around.near, e.id())
 }
 
 /// What is near an element and all that name it, and what surrounds that, unless it is much.
 fn find_around(
     alloc: Global,
-    live: &Vec<SharedElement>,
-    table: &LinkTable,
+    board: Board<'_>,
     e: &SharedElement,
 ) -> Result<Option<Around>, AllocError>
-    requires ordered { are_rising (ids_of live.now.items) ≡ true }
-    requires table { HaveRowsOf live.now.items table.now.rows }
-    ensures around { IfOk result (λ found. IfSome found
-        (λ a. AreAround live.now.items e.now a.near.list.items a.wide.list.items)) }
-    ensures near { IfOk result
-        (λ found. IfSome found (λ a. AreIds a.near.list.items a.near.seen)) }
-    ensures wide { IfOk result
-        (λ found. IfSome found (λ a. AreIds a.wide.list.items a.wide.seen)) }
+    ensures { IfOk result (λ found. IfSome found
+        (λ a. AreAround board.entry.live.now.items e.now a.near.list.items a.wide.list.items)) }
 {
     let news = alone(alloc, e)?;
     let mut start = started_by(alloc, &news)?;
-    add_all_namers(&mut start, e.id(), live, table)?;
-    let near = reached(alloc, &start, live, table)?;
-    if is_much(&near, live) {
+    add_all_namers(&mut start, e.id(), board)?;
+    let near = reached(alloc, &start, board)?;
+    if is_much(&near, board) {
         return Ok(None);
     }
-    let wide = surrounded(alloc, &near, &news, live, table)?;
+    let wide = surrounded(alloc, &near, &news, board)?;
     Ok(Some(Around { near, wide }))
 }
 
@@ -287,7 +281,6 @@ fn puts_beside(
     near: &Ids,
     id: &Text,
 ) -> Result<Option<Vec<Put>>, AllocError>
-    requires { AreIds near.now.list.items near.now.seen }
     ensures { IfOk result
         (λ found. IfSome found
         (λ puts. ArePutBeside shown.now.items part near.now.list.items id.now puts.items)) }
