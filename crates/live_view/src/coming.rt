@@ -13,7 +13,7 @@ ghost use Rattle.live_view.specs.inner.Coming.{all_stored, rekeyed, AreAround, A
 ghost use Rattle.live_view.specs.inner.Replacing.{HaveReplaced};
 
 use crate::ids::Ids;
-use crate::kept::{Kept, Parts, joined};
+use crate::kept::{Kept, joined};
 use crate::order::scene_order;
 use crate::places::{Put, order_of, place_of, place_shown, put_all, replace};
 use crate::reach::{Board, add_all_namers, is_much, reached, started_by, surrounded};
@@ -51,13 +51,7 @@ impl Kept {
         ensures { IfOk result (λ found. IfSome found (HaveReplaced self (e.now ∷ []))) }
     {
         let alloc = self.allocator();
-        let Parts {
-            live,
-            shown,
-            table,
-            unsettled,
-        } = self.into_parts();
-        let (mut live, mut shown, mut table, mut unsettled) = (live, shown, table, unsettled);
+        let (mut live, mut shown, mut table, mut unsettled) = self.into_parts();
         let Err(at) = place_of(&live, e.id()) else {
             return Ok(None);
         };
@@ -95,13 +89,7 @@ impl Kept {
         ensures { IfOk result (λ found. IfSome found (HasGone self id.now)) }
     {
         let alloc = self.allocator();
-        let Parts {
-            live,
-            shown,
-            table,
-            unsettled,
-        } = self.into_parts();
-        let (mut live, mut shown, mut table, mut unsettled) = (live, shown, table, unsettled);
+        let (mut live, mut shown, mut table, mut unsettled) = self.into_parts();
         let Ok(at) = place_of(&live, id) else {
             return Ok(Some(joined(live, shown, table, unsettled)));
         };

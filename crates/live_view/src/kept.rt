@@ -31,15 +31,6 @@ pub(crate) struct Kept {
     pub(crate) unsettled: Unsettled,
 }
 
-/// The parts of what is kept, while it changes.
-#[derive(Drop)]
-pub(crate) struct Parts {
-    pub(crate) live: Vec<SharedElement>,
-    pub(crate) shown: Vec<SharedElement>,
-    pub(crate) table: LinkTable,
-    pub(crate) unsettled: Unsettled,
-}
-
 // By hand, so that whoever drops what is kept sees one call and not its parts.
 impl Drop for Kept {
     fn drop(self) {
@@ -77,11 +68,10 @@ impl Kept {
         }
     }
 
-    /// Its parts.
-    pub(crate) fn into_parts(self) -> Parts
-        ensures same { result.live.items ≡ self }
-        ensures are { IsLiveView result.live.items result.shown.items result.table.rows
-            result.unsettled }
+    /// Its parts, which may change apart.
+    pub(crate) fn into_parts(self) -> (Vec<SharedElement>, Vec<SharedElement>, LinkTable, Unsettled)
+        ensures same { result.0.items ≡ self }
+        ensures are { IsLiveView result.0.items result.1.items result.2.rows result.3 }
     {
         let Kept {
             live,
@@ -89,12 +79,7 @@ impl Kept {
             table,
             unsettled,
         } = self;
-        Parts {
-            live,
-            shown,
-            table,
-            unsettled,
-        }
+        (live, shown, table, unsettled)
     }
 
     /// What is shown.
