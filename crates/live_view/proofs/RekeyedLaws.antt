@@ -1,5 +1,5 @@
 -- Elements whose keys were set from a place on, and the repaired keys of elements with one more or without one.
-use Rattle.std.proofs.Common.{◌≡◌, ℕ, zero, suc, ◌+◌, ◌-◌, ◌<◌, ◌≤◌, Bool, true, false, not, ◌&&◌, ◌||◌, bytes_eq, List, [], ◌∷◌, ◌++◌, length, take, drop, insert, remove, map, set, get_or, Option, Some, None, refl, sym, ap, ap₂, ◌∙◌, subst, subst₂, inl, inr, arith, length-drop, append_assoc, take-append-drop}
+use Rattle.std.proofs.Common.{◌≡◌, ℕ, zero, suc, ◌+◌, ◌-◌, ◌<◌, ◌≤◌, Bool, true, false, not, ◌&&◌, bytes_eq, List, [], ◌∷◌, ◌++◌, length, take, drop, insert, remove, map, set, get_or, Option, Some, None, refl, sym, ap, ap₂, ◌∙◌, subst, subst₂, inl, inr, arith, length-drop, append_assoc, take-append-drop}
 use Rattle.std.specs.List.{list_all}
 use Rattle.std.specs.Cmp.{IsStrictWeakOrder}
 use Rattle.std.specs.Cmp.Lexicographic.{nat_list_cmp_total}
@@ -16,9 +16,9 @@ use Rattle.index_repair.specs.Repair.{repaired, repaired_below, are_below, Never
 use Rattle.elem.specs.ElementValue.{ElementValue}
 use Rattle.elem_store.specs.Updates.{ids_of}
 use Rattle.index_repair.specs.Keyed.{index_of, with_index}
-use Rattle.view.specs.Shown.{without_index, comes_before, place_less, AreInSceneOrder}
+use Rattle.view.specs.Shown.{without_index, place_less, AreInSceneOrder}
 use Rattle.live_view.specs.inner.Coming.{rekeyed}
-use Rattle.live_view.specs.inner.Runs.{first_of, last_of, key_rises, is_cut, rises_at, part_of, IsRunStart, AreRepaired, AreKeysWith, AreKeysWithout}
+use Rattle.live_view.specs.inner.Runs.{first_of, last_of, key_rises, is_cut, part_of, IsRunStart, AreKeysWith, AreKeysWithout}
 use Rattle.live_view.proofs.OrderedLaws.{map-insert, map-remove}
 use Rattle.live_view.proofs.RunLaws.{rises-below, cut-without, cut-count, part-exchanged, none-repaired, split-all, all-without}
 
