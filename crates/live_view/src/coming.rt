@@ -1,14 +1,13 @@
 //! An element that comes to a view or goes: the runs of keys around its place are repaired, what is
 //! near it is shown anew, and nothing else that is shown changes.
 
-ghost use Rattle.std.specs.Prelude.{◌≡◌, ℕ, ◌+◌, ◌<◌, ◌≤◌, [], ◌∷◌, Ok, Some, true, false, insert, length, slice_index_or, IfOk, IfSome, IsTrue, OnOk};
+ghost use Rattle.std.specs.Prelude.{◌≡◌, ◌+◌, ◌<◌, ◌≤◌, [], ◌∷◌, Ok, Some, true, insert, length, IfOk, IfSome, IsTrue, OnOk};
 ghost use Rattle.frac_keys.specs.Rising.{are_rising};
-ghost use Rattle.elem.specs.ElementValue.{ElementValue};
 ghost use Rattle.elem.specs.Order as order;
 ghost use Rattle.elem_store.specs.Updates as updates;
 ghost use Rattle.elem_store.specs.Updates.{ids_of};
 ghost use Rattle.index_repair.specs.Keyed.{with_index};
-ghost use Rattle.view.specs.Shown.{comes_before, is_live};
+ghost use Rattle.view.specs.Shown.{is_live};
 ghost use Rattle.live_view.specs.inner.Coming.{all_stored, rekeyed, AreAround, ArePutBeside, HasGone, IsComing, IsGoing, IsPlaceFor};
 ghost use Rattle.live_view.specs.inner.Replacing.{HaveReplaced};
 
@@ -128,15 +127,11 @@ fn place_for(live: &Vec<SharedElement>, shown: &Vec<SharedElement>, e: &Element)
     let Err(place) = shown.binary_search_by(|s| order_of(live, s, e)) else {
         return None;
     };
-    if comes_behind(live, shown, place, e) && comes_ahead(live, shown, place, e) {
-        Some(place)
-    } else {
-        None
-    }
+    comes_at(live, shown, place, e).then_some(place)
 }
 
-/// Whether an element comes behind what stands before a place.
-fn comes_behind(
+/// Whether an element comes behind what stands before a place, and before what stands there.
+fn comes_at(
     live: &Vec<SharedElement>,
     shown: &Vec<SharedElement>,
     place: usize,
@@ -144,27 +139,11 @@ fn comes_behind(
 ) -> bool
     requires ordered { are_rising (ids_of live.now.items) ≡ true }
     requires within { place ≤ length shown.now.items }
-    ensures { IsTrue result → (i : ℕ) (d : ElementValue) → i + 1 ≡ place
-        → comes_before (slice_index_or
-        (all_stored live.now.items shown.now.items) i d) e.now ≡ true }
+    ensures { IsTrue result
+        → IsPlaceFor (all_stored live.now.items shown.now.items) e.now place }
 {
-    place == 0 || scene_order(stored_of(live, shown[place - 1].get()), e).is_lt()
-}
-
-/// Whether an element comes before what stands at a place.
-fn comes_ahead(
-    live: &Vec<SharedElement>,
-    shown: &Vec<SharedElement>,
-    place: usize,
-    e: &Element,
-) -> bool
-    requires ordered { are_rising (ids_of live.now.items) ≡ true }
-    requires within { place ≤ length shown.now.items }
-    ensures { IsTrue result → (d : ElementValue) → place < length shown.now.items
-        → comes_before e.now (slice_index_or
-        (all_stored live.now.items shown.now.items) place d) ≡ true }
-{
-    place == shown.len() || scene_order(e, stored_of(live, shown[place].get())).is_lt()
+    let behind = place == 0 || scene_order(stored_of(&*live, shown[place - 1].get()), e).is_lt();
+    behind && (place == shown.len() || scene_order(e, stored_of(live, shown[place].get())).is_lt())
 }
 
 /// What is shown anew where an element comes, if all of it is found and it isn't much.

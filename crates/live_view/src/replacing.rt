@@ -1,14 +1,13 @@
 //! Elements that take the places of those of their ids, with the same indices: what is near them is
 //! shown anew, and nothing else that is shown changes.
 
-ghost use Rattle.std.specs.Prelude.{◌≡◌, ℕ, List as Items, Some, Ok, true, false, map, filter, filter_map, length, All, OnErr, IfOk, IfSome, IsTrue, option_copied};
+ghost use Rattle.std.specs.Prelude.{◌≡◌, Some, Ok, true, false, map, filter, filter_map, All, OnErr, IfOk, IfSome, IsTrue, option_copied};
 ghost use Rattle.std.specs.List.{list_all};
 ghost use Rattle.frac_keys.specs.Rising.{are_rising};
 ghost use Rattle.elem.specs.ElementValue.{ElementValue};
 ghost use Rattle.elem_store.specs.Updates as updates;
 ghost use Rattle.elem_store.specs.Updates.{ids_of, is_among};
 ghost use Rattle.view.specs.Settled.{settled};
-ghost use Rattle.elem.specs.Order.{HaveDistinctIds};
 ghost use Rattle.view.specs.Shown.{in_scene_order, is_live, without_index};
 ghost use Rattle.live_view.specs.inner.Putting.{puts_of, IsInPlace};
 ghost use Rattle.live_view.specs.inner.Replacing as replacing;
