@@ -1,16 +1,12 @@
 -- A list of ids and the set of them, one id more each time.
-use Rattle.std.proofs.Common.{◌≡◌, ℕ, ◌+◌, ◌<◌, Bool, true, false, not, ◌&&◌, ◌||◌, List, [], ◌∷◌, ◌++◌, length, take, get_or, bytes_eq, refl, sym, ap, ap₂, ◌∙◌}
+use Rattle.std.proofs.Common.{◌≡◌, ℕ, ◌+◌, ◌<◌, Bool, true, false, not, ◌&&◌, ◌||◌, List, [], ◌∷◌, ◌++◌, length, take, get_or, bytes_eq, refl, sym, ap, ◌∙◌}
 use Rattle.std.specs.BTreeSet.{BTreeSet}
-use Rattle.std.specs.Cmp.Lexicographic.{nat_list_eq_equiv}
-use Rattle.std.specs.List.{IsDistinct}
 use Rattle.std.proofs.lemmas.Bool.{both_ways, false_from_ne_true}
 use Rattle.std.proofs.lemmas.List.{take_more}
 use Rattle.std.proofs.lemmas.List.Folds.{list_any-append}
-use Rattle.std.proofs.lemmas.Map.Keys.{IsDistinct-push}
 use Rattle.std.proofs.lemmas.Slice.Eq.{bytes_eq-Decides}
 use Rattle.links.specs.Tables.{has_seen}
 use Rattle.elem_store.specs.Updates.{is_among}
-use Rattle.live_view.specs.inner.Reached.{AreIds}
 
 or-none : (a : Bool) → (a || false) ≡ a
 or-none true = refl
@@ -28,26 +24,20 @@ among-push ids id other =
     list_any-append (bytes_eq other) ids (id ∷ []) ∙ ap (λ b. is_among ids other || b) (or-none (bytes_eq other id))
     ∙ or-turned (is_among ids other) (bytes_eq other id)
 
-module _ (ids : List (List ℕ)) (seen new : BTreeSet (List ℕ)) (id : List ℕ) (are : AreIds ids seen)
-    (see : (other : List ℕ) → has_seen new other ≡ (bytes_eq other id || has_seen seen other)) where
-  pub AreIds-push : has_seen seen id ≡ false → AreIds (ids ++ id ∷ []) new
-  AreIds-push first = record {
-    same = λ other. see other ∙ ap (λ b. bytes_eq other id || b) (are.same other) ∙ sym (among-push ids id other);
-    distinct = IsDistinct-push nat_list_eq_equiv ids id are.distinct (sym (are.same id) ∙ first);
-  }
+pub same-push : (ids : List (List ℕ)) (seen new : BTreeSet (List ℕ)) (id : List ℕ)
+    → ((other : List ℕ) → has_seen seen other ≡ is_among ids other)
+    → ((other : List ℕ) → has_seen new other ≡ (bytes_eq other id || has_seen seen other))
+    → (other : List ℕ) → has_seen new other ≡ is_among (ids ++ id ∷ []) other
+same-push ids seen new id same see other =
+    see other ∙ ap (λ b. bytes_eq other id || b) (same other) ∙ sym (among-push ids id other)
 
-  pub among-stays : has_seen seen id ≡ true → (other : List ℕ)
-      → is_among ids other ≡ (bytes_eq other id || is_among ids other)
-  among-stays known other = by (bytes_eq other id) refl where
-    by : (b : Bool) → bytes_eq other id ≡ b → is_among ids other ≡ (b || is_among ids other)
-    by true same = ap (is_among ids) ((bytes_eq-Decides other id).0 same) ∙ sym (are.same id) ∙ known
-    by false other' = refl
-
-  pub AreIds-stay : has_seen seen id ≡ true → AreIds ids new
-  AreIds-stay known = record {
-    same = λ other. see other ∙ ap (λ b. bytes_eq other id || b) (are.same other) ∙ sym (among-stays known other);
-    distinct = are.distinct;
-  }
+-- an id that is there adds nothing
+pub among-stays : (ids : List (List ℕ)) (id : List ℕ) → is_among ids id ≡ true → (other : List ℕ)
+    → is_among ids other ≡ (bytes_eq other id || is_among ids other)
+among-stays ids id known other = by (bytes_eq other id) refl where
+  by : (b : Bool) → bytes_eq other id ≡ b → is_among ids other ≡ (b || is_among ids other)
+  by true same = ap (is_among ids) ((bytes_eq-Decides other id).0 same) ∙ known
+  by false other' = refl
 
 -- all of some ids, one more
 pub among-all : (ids : List (List ℕ)) (i : ℕ) (id : List ℕ) → i < length ids → id ≡ get_or ids i id

@@ -1,11 +1,8 @@
 -- The stored keys of shown elements, by their places.
-use Rattle.std.proofs.Common.{◌≡◌, ℕ, zero, suc, ◌+◌, ◌-◌, ◌<◌, ◌≤◌, Bool, true, false, List, [], ◌∷◌, ◌++◌, length, take, drop, get_or, slice_get, map, Option, Some, None, refl, sym, ap, ◌∙◌, arith}
-use Rattle.std.specs.List.{list_all}
+use Rattle.std.proofs.Common.{◌≡◌, ℕ, zero, suc, ◌<◌, ◌≤◌, true, List, [], ◌∷◌, ◌++◌, length, take, drop, get_or, slice_get, Option, Some, refl, sym, ap, ◌∙◌, arith}
 use Rattle.std.proofs.lemmas.List.{length-map, drop_all}
 use Rattle.std.proofs.lemmas.Option.{same_Some}
-use Rattle.frac_keys.specs.Rising.{is_key_or_none}
 use Rattle.index_repair.specs.Repair.{are_below}
-use Rattle.index_repair.proofs.CallerLemmas.{all-below}
 use Rattle.elem.specs.ElementValue.{ElementValue}
 use Rattle.view.specs.Shown.{as_stored}
 use Rattle.live_view.specs.inner.Runs.{first_of, last_of, key_rises, rises_at, is_cut, part_of, stored_keys}

@@ -1,5 +1,5 @@
 -- What is shown after elements came, went or changed: near them it is settled anew, and far from them it stays.
-use Rattle.std.proofs.Common.{◌≡◌, ◌⊎◌, ℕ, Bool, true, false, not, cond, List, [], ◌∷◌, length, map, filter, filter_map, Option, Some, None, Contains, bytes_eq, refl, sym, ap, ◌∙◌, subst, inl, inr, arith}
+use Rattle.std.proofs.Common.{◌≡◌, ◌⊎◌, ℕ, Bool, true, false, not, cond, List, map, filter, filter_map, Option, Some, None, Contains, bytes_eq, refl, sym, ap, ◌∙◌, subst, inl, inr}
 use Rattle.std.specs.List.{IsDistinct, list_all}
 use Rattle.std.specs.Option.{option_map}
 use Rattle.std.proofs.lemmas.Bool.{cases_Bool, both_ways, false_from_ne_true}

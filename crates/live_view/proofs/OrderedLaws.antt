@@ -1,24 +1,20 @@
 -- The scene order of elements with one more, and without one.
-use Rattle.std.proofs.Common.{◌≡◌, ℕ, zero, suc, ◌+◌, ◌<◌, ◌≤◌, Bool, true, false, not, cond, List, [], ◌∷◌, ◌++◌, length, take, drop, insert, remove, map, filter, get_or, Option, Some, None, Contains, Ordering, is_lt, AllPairs, bytes_eq, refl, sym, ap, ap₂, ◌∙◌, subst, inl, inr, arith, take-append-drop}
-use Rattle.std.specs.Cmp.{IsTotalOrder}
+use Rattle.std.proofs.Common.{◌≡◌, ℕ, zero, suc, ◌<◌, true, false, not, List, [], ◌∷◌, length, take, drop, insert, remove, map, filter, get_or, Some, None, Contains, Ordering, is_lt, bytes_eq, refl, sym, ap, ap₂, ◌∙◌, subst, arith, take-append-drop}
 use Rattle.std.specs.Ordering.{ordering_reverse}
 use Rattle.std.specs.List.{AllByRecursion, IsDistinct}
 use Rattle.std.specs.List.Sorted.{IsPermutation}
 use Rattle.std.specs.Option.{unwrap_or}
 use Rattle.std.specs.declared.cmp.Ordering.TheVariants.{Less, Equal, Greater}
-use Rattle.std.proofs.lemmas.Bool.{cases_Bool, cond_both, cond-true, cond-false, and_from, and_parts, both_ways, false_from_ne_true}
-use Rattle.std.proofs.lemmas.Slice.Eq.{bytes_eq-Decides}
-use Rattle.frac_keys.specs.Keys.{bytes_less}
-use Rattle.frac_keys.specs.Rising.{ends_rise, rise_between, are_rising}
+use Rattle.std.proofs.lemmas.Bool.{cond-true, cond-false}
+use Rattle.frac_keys.specs.Rising.{are_rising}
 use Rattle.frac_keys.proofs.CallerLemmas.{rise_between-filter}
-use Rattle.std.proofs.lemmas.List.Elements.{Contains-get_or, filter-append}
 use Rattle.std.proofs.lemmas.List.Sorted.{IsPermutation-refl, IsPermutation-sym, IsPermutation-trans, IsPermutation-middle, IsPermutation-cons, Contains-permutation}
 use Rattle.elem.specs.ElementValue.{ElementValue}
-use Rattle.elem.specs.Order.{has_id, HaveDistinctIds}
+use Rattle.elem.specs.Order.{HaveDistinctIds}
 use Rattle.elem_store.specs.Updates.{element_of, ids_of}
-use Rattle.elem_store.proofs.CallerLemmas.{same_id, of_itself, Contains-head, Contains-cons, member}
+use Rattle.elem_store.proofs.CallerLemmas.{of_itself, Contains-head, Contains-cons, member}
 use Rattle.view.specs.Shown.{as_stored, comes_before, with_element, in_scene_order, AreInSceneOrder, IsView}
-use Rattle.view.proofs.CallerLemmas.{in_order-permuted, HaveDistinctIds-permuted, place_cmp, place_cmp-total, comes_before-cmp, scene_order, IsPermutation-in_scene_order, shown-is, HaveDistinctIds-rising}
+use Rattle.view.proofs.CallerLemmas.{in_order-permuted, place_cmp, place_cmp-total, comes_before-cmp, scene_order, IsPermutation-in_scene_order, shown-is}
 use Rattle.json_text.proofs.CallerLemmas.{bytes_eq-flip}
 use Rattle.live_view.specs.inner.Coming.{all_stored, IsPlaceFor}
 

@@ -1,11 +1,10 @@
 -- Elements of some ids, in scene order, are those of all of them in scene order that are of these ids.
-use Rattle.std.proofs.Common.{◌≡◌, ℕ, zero, suc, ◌+◌, ◌<◌, Bool, true, false, cond, List, [], ◌∷◌, ◌++◌, length, take, get_or, map, filter, filter_map, Option, Some, None, Ordering, is_lt, Contains, AllPairs, bytes_eq, refl, sym, ap, ap₂, ◌∙◌, subst, inl, inr, append-nil, arith}
-use Rattle.std.specs.Cmp.Lexicographic.{nat_list_eq_equiv}
-use Rattle.std.specs.List.{AllByRecursion, IsDistinct, cons_option, list_any}
+use Rattle.std.proofs.Common.{◌≡◌, ℕ, ◌+◌, ◌<◌, Bool, true, false, List, [], ◌∷◌, ◌++◌, length, take, get_or, map, filter, filter_map, Option, Some, None, Ordering, is_lt, Contains, bytes_eq, refl, sym, ap, ap₂, ◌∙◌, subst, inl, inr, append-nil, arith}
+use Rattle.std.specs.List.{AllByRecursion, IsDistinct, cons_option}
 use Rattle.std.specs.List.Sorted.{IsStrictlySortedBy}
 use Rattle.std.specs.declared.cmp.Ordering.TheVariants.{Less, Equal, Greater}
 use Rattle.std.proofs.Math.ListN.{get_or-map}
-use Rattle.std.proofs.lemmas.Bool.{cases_Bool, or_cases, or_left, or_right}
+use Rattle.std.proofs.lemmas.Bool.{cases_Bool, or_left, or_right}
 use Rattle.std.proofs.lemmas.List.{length-map, take_more}
 use Rattle.std.proofs.lemmas.List.Elements.{filter_map-append}
 use Rattle.std.proofs.lemmas.List.Kept.{AllPairs-filter}
@@ -20,7 +19,7 @@ use Rattle.elem_store.specs.Updates.{element_of, ids_of, is_among}
 use Rattle.elem_store.proofs.CallerLemmas.{same_id, Contains-head, Contains-cons, Contains-cases, Contains-filter, find-Some, member}
 use Rattle.index_repair.specs.Keyed.{index_of}
 use Rattle.view.specs.Shown.{comes_before, place_less, in_scene_order, AreInSceneOrder}
-use Rattle.view.proofs.CallerLemmas.{AllPairs-in_order, HaveDistinctIds-permuted, same_sorted, place_cmp, place_cmp-total, comes_before-cmp, scene_order, IsPermutation-in_scene_order, HaveDistinctIds-rising}
+use Rattle.view.proofs.CallerLemmas.{AllPairs-in_order, same_sorted, place_cmp, place_cmp-total, comes_before-cmp, scene_order, IsPermutation-in_scene_order, HaveDistinctIds-rising}
 use Rattle.std.specs.Option.{option_or}
 use Rattle.std.proofs.lemmas.Map.Views.{Contains-from_any}
 use Rattle.json_text.proofs.CallerLemmas.{bytes_eq-true}

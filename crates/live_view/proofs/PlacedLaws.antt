@@ -1,11 +1,10 @@
 -- Of live elements, of what they are when they are placed, and of what is shown of them, what the others keep.
-use Rattle.std.proofs.Common.{◌≡◌, ℕ, true, List, [], ◌∷◌, length, map, bytes_eq, refl, ap, ◌∙◌, arith}
+use Rattle.std.proofs.Common.{◌≡◌, true, List, length, map, bytes_eq, ◌∙◌}
 use Rattle.std.proofs.lemmas.List.{length-map}
 use Rattle.std.proofs.lemmas.List.Sorted.{IsPermutation-map, All-permutation}
 use Rattle.std.proofs.lemmas.List.Sums.{AllPass-from_list_all, list_all-from_AllPass}
 use Rattle.std.proofs.lemmas.Map.Keys.{IsDistinct-IsPermutation}
 use Rattle.std.specs.Cmp.Lexicographic.{nat_list_eq_equiv}
-use Rattle.std.specs.List.{list_all}
 use Rattle.frac_keys.specs.Rising.{is_key_or_none}
 use Rattle.index_repair.specs.Repair.{repaired}
 use Rattle.index_repair.proofs.CallerLemmas.{repaired-law}
@@ -13,7 +12,7 @@ use Rattle.elem.specs.ElementValue.{ElementValue}
 use Rattle.elem_store.specs.Updates.{ids_of}
 use Rattle.view.specs.Settled.{unsettled, settled}
 use Rattle.elem.specs.Order.{HaveDistinctIds}
-use Rattle.index_repair.specs.Keyed.{index_of, keyed, HaveKeysOrNone}
+use Rattle.index_repair.specs.Keyed.{index_of, HaveKeysOrNone}
 use Rattle.view.specs.Shown.{in_scene_order, placed, shown, bare, without_index}
 use Rattle.view.proofs.CallerLemmas.{IsPermutation-in_scene_order, map-less, unsettled-settled, shown-is, others-keyed}
 

@@ -16,7 +16,7 @@ use Rattle.elem_store.proofs.CallerLemmas.{same_id, find-Some, member}
 use Rattle.elem_store.proofs.CallerLemmas as rows
 use Rattle.links.proofs.CallerLemmas.{map-map}
 use Rattle.live_view.specs.inner.Changes.{outline, redrawn_as, HasRedrawn, IsRedrawn}
-use Rattle.index_repair.specs.Keyed.{index_of, HaveKeysOrNone}
+use Rattle.index_repair.specs.Keyed.{index_of}
 use Rattle.view.specs.Shown.{is_live, in_scene_order, shown, bare, IsView}
 use Rattle.view.proofs.CallerLemmas.{HaveDistinctIds-rising, IsPermutation-in_scene_order, shown-redrawn}
 use Rattle.live_view.proofs.PlacedLaws.{bare-shown, shown-distinct}

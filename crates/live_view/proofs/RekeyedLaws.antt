@@ -1,5 +1,5 @@
 -- Elements whose keys were set from a place on, and the repaired keys of elements with one more or without one.
-use Rattle.std.proofs.Common.{◌≡◌, ℕ, zero, suc, ◌+◌, ◌-◌, ◌<◌, ◌≤◌, Bool, true, false, not, ◌&&◌, ◌||◌, bytes_eq, List, [], ◌∷◌, ◌++◌, length, take, drop, insert, remove, map, set, get_or, Option, Some, None, refl, sym, ap, ap₂, ◌∙◌, subst, subst₂, inl, inr, arith, length-drop, append_assoc, take-append-drop}
+use Rattle.std.proofs.Common.{◌≡◌, ℕ, zero, suc, ◌+◌, ◌-◌, ◌<◌, ◌≤◌, Bool, true, false, not, ◌&&◌, bytes_eq, List, [], ◌∷◌, ◌++◌, length, take, drop, insert, remove, map, set, get_or, Option, Some, None, refl, sym, ap, ap₂, ◌∙◌, subst, subst₂, inl, inr, arith, length-drop, append_assoc, take-append-drop}
 use Rattle.std.specs.List.{list_all}
 use Rattle.std.specs.Cmp.{IsStrictWeakOrder}
 use Rattle.std.specs.Cmp.Lexicographic.{nat_list_cmp_total}
@@ -16,9 +16,9 @@ use Rattle.index_repair.specs.Repair.{repaired, repaired_below, are_below, Never
 use Rattle.elem.specs.ElementValue.{ElementValue}
 use Rattle.elem_store.specs.Updates.{ids_of}
 use Rattle.index_repair.specs.Keyed.{index_of, with_index}
-use Rattle.view.specs.Shown.{without_index, comes_before, place_less, AreInSceneOrder}
+use Rattle.view.specs.Shown.{without_index, place_less, AreInSceneOrder}
 use Rattle.live_view.specs.inner.Coming.{rekeyed}
-use Rattle.live_view.specs.inner.Runs.{first_of, last_of, key_rises, is_cut, rises_at, part_of, IsRunStart, AreRepaired, AreKeysWith, AreKeysWithout}
+use Rattle.live_view.specs.inner.Runs.{first_of, last_of, key_rises, is_cut, part_of, IsRunStart, AreKeysWith, AreKeysWithout}
 use Rattle.live_view.proofs.OrderedLaws.{map-insert, map-remove}
 use Rattle.live_view.proofs.RunLaws.{rises-below, cut-without, cut-count, part-exchanged, none-repaired, split-all, all-without}
 
@@ -250,6 +250,41 @@ module _ (keys : List (Option (List ℕ))) (place start : ℕ) (new : List (List
       (split-all is_key_or_none (take n keys) (drop n keys)
       (subst (λ ks. list_all is_key_or_none ks ≡ true) (sym (take-append-drop n keys)) all)).1
 
+  -- the keys from the start to an end are others
+  exchanged-part : (e : ℕ) (part after : List (Option (List ℕ))) → IsRunStart keys place start → start ≤ e
+      → e ≤ length keys → after ≡ take start keys ++ (part ++ drop e keys)
+      → (0 < start → first_of (part ++ drop e keys) ≡ first_of (part_of keys start e ++ drop e keys))
+      → is_cut (part_of keys start e) (drop e keys) ≡ true → is_cut part (drop e keys) ≡ true
+      → list_all is_key_or_none part ≡ true → new ≡ repaired_below (first_of (drop e keys)) part
+      → AreExchanged keys after start new e × (length new ≡ length part)
+  exchanged-part e part after begins up within to same cut next part_all exact =
+      let P = take start keys in
+      let W = part_of keys start e in
+      let Q = drop e keys in
+      let R = repaired keys in
+      let whole : keys ≡ P ++ (W ++ Q) = parts-whole keys start e up in
+      let length_P : length P ≡ start = length-take-le start keys (omega (arith, up, within)) in
+      let length_W : start + length W ≡ e = length-part keys start e up within in
+      let end_is : length P + length W ≡ e = omega (arith, length_P, length_W) in
+      let behind : first_of (W ++ Q) ≡ first_of (drop start keys) = ap first_of (drop-parts keys start e up) in
+      let exchanged =
+      part-exchanged P W part Q (subst (λ ks. list_all is_key_or_none ks ≡ true) whole all)
+      (cut-start keys place start never begins (W ++ Q) (λ more. behind))
+      (cut-start keys place start never begins (part ++ Q) (λ more. same more ∙ behind))
+      cut next (same-before keys place start never begins (first_of (part ++ Q)) (first_of (W ++ Q)) same) in (
+        record {
+          within = within;
+          exact =
+              ap repaired to ∙ exchanged
+              ∙ ap (λ ks. take (length P) (repaired ks)
+              ++ (repaired_below (first_of Q) part ++ drop (length P + length W) (repaired ks))) (sym whole)
+              ∙ ap₂ (λ m n. take m R ++ (repaired_below (first_of Q) part ++ drop n R)) length_P end_is
+              ∙ ap (λ ks. take start R ++ (ks ++ drop e R)) (sym exact);
+        },
+        ap length exact ∙ cut-count part Q next (list_all-append is_key_or_none part Q
+            ∙ and_from (list_all is_key_or_none part) (list_all is_key_or_none Q) part_all (all-from e)),
+      )
+
   pub exchanged-with : (key : Option (List ℕ)) → place ≤ length keys → (are : AreKeysWith keys key place start new)
       → AreExchanged keys (insert keys place key) start new are.end' × (start + length new ≡ suc are.end')
   exchanged-with key short are =
@@ -260,44 +295,19 @@ module _ (keys : List (Option (List ℕ))) (place start : ℕ) (new : List (List
       let j = place - start in
       let before : start ≤ place = are.begins.before in
       let up : start ≤ e = omega (arith, before, are.behind) in
-      let whole : keys ≡ P ++ (W ++ Q) = parts-whole keys start e up in
-      let length_P : length P ≡ start = length-take-le start keys (omega (arith, up, are.within)) in
       let length_W : start + length W ≡ e = length-part keys start e up are.within in
       let j_in : j ≤ length W = omega (arith, before, are.behind, length_W) in
-      let ins = insert W j key in
-      let behind : first_of (W ++ Q) ≡ first_of (drop start keys) = ap first_of (drop-parts keys start e up) in
-      let same : 0 < start → first_of (ins ++ Q) ≡ first_of (W ++ Q) = λ more. let inner =
-      (are.begins.rises (omega (arith, more))).0 in first-insert W Q j key (omega (arith, inner)) j_in in
-      let to : insert keys place key ≡ P ++ (ins ++ Q) =
-      ap (λ ks. insert ks place key) whole
-      ∙ ap (λ n. insert (P ++ (W ++ Q)) n key) (let p : place ≡ length P + j = omega (arith, length_P, before) in p)
-      ∙ insert-left P (W ++ Q) j key ∙ ap (λ ks. P ++ ks) (insert-right W Q j key j_in) in
-      let next : is_cut W Q ≡ true = subst (λ ks. is_cut ks Q ≡ true) (take-append-drop j W)
-      (cut-without (take j W) key (drop j W) Q are.repaired.cut) in
-      let keys_all : list_all is_key_or_none (P ++ (W ++ Q)) ≡ true =
-      subst (λ ks. list_all is_key_or_none ks ≡ true) whole all in
-      let exchanged =
-      part-exchanged P W ins Q keys_all
-      (cut-start keys place start never are.begins (W ++ Q) (λ more. behind))
-      (cut-start keys place start never are.begins (ins ++ Q) (λ more. same more ∙ behind))
-      next are.repaired.cut
-      (same-before keys place start never are.begins (first_of (ins ++ Q)) (first_of (W ++ Q)) same) in
-      let end_is : length P + length W ≡ e = omega (arith, length_P, length_W) in
-      let R = repaired keys in (
-        record {
-          within = are.within;
-          exact =
-              ap repaired to ∙ exchanged
-              ∙ ap (λ ks. take (length P) (repaired ks)
-              ++ (repaired_below (first_of Q) ins ++ drop (length P + length W) (repaired ks))) (sym whole)
-              ∙ ap₂ (λ m n. take m R ++ (repaired_below (first_of Q) ins ++ drop n R)) length_P end_is
-              ∙ ap (λ ks. take start R ++ (ks ++ drop e R)) (sym are.repaired.exact);
-        },
-        let count = ap length are.repaired.exact
-            ∙ cut-count ins Q are.repaired.cut (list_all-append is_key_or_none ins Q
-            ∙ and_from (list_all is_key_or_none ins) (list_all is_key_or_none Q) are.repaired.are_keys (all-from e)) in
-            omega (arith, count, length-insert W j key, length_W),
-      )
+      let at_place : place ≡ length P + j =
+      omega (arith, length-take-le start keys (omega (arith, up, are.within)), before) in
+      let is = exchanged-part e (insert W j key) (insert keys place key) are.begins up are.within
+      (ap (λ ks. insert ks place key) (parts-whole keys start e up) ∙ ap (λ n. insert (P ++ (W ++ Q)) n key) at_place
+      ∙ insert-left P (W ++ Q) j key ∙ ap (λ ks. P ++ ks) (insert-right W Q j key j_in))
+      (λ more. let inner = (are.begins.rises (omega (arith, more))).0 in
+      first-insert W Q j key (omega (arith, inner)) j_in)
+      (subst (λ ks. is_cut ks Q ≡ true) (take-append-drop j W)
+      (cut-without (take j W) key (drop j W) Q are.repaired.cut))
+      are.repaired.cut are.repaired.are_keys are.repaired.exact in
+      (is.0, omega (arith, is.1, length-insert W j key, length_W))
 
   pub exchanged-without : place < length keys → (are : AreKeysWithout keys place start new)
       → AreExchanged keys (remove keys place) start new are.end' × (start + length new + 1 ≡ are.end')
@@ -310,49 +320,25 @@ module _ (keys : List (Option (List ℕ))) (place start : ℕ) (new : List (List
       let before : start ≤ place = are.begins.before in
       let up : start ≤ e = omega (arith, before, are.behind) in
       let whole : keys ≡ P ++ (W ++ Q) = parts-whole keys start e up in
-      let length_P : length P ≡ start = length-take-le start keys (omega (arith, up, are.within)) in
       let length_W : start + length W ≡ e = length-part keys start e up are.within in
       let j_in : j < length W = omega (arith, before, are.behind, length_W) in
-      let left = remove W j in
+      let at_place : place ≡ length P + j =
+      omega (arith, length-take-le start keys (omega (arith, up, are.within)), before) in
       let key = get_or W j None in
       let split : W ≡ take j W ++ key ∷ drop (suc j) W = part-at W j None j_in in
-      let behind : first_of (W ++ Q) ≡ first_of (drop start keys) = ap first_of (drop-parts keys start e up) in
-      let same : 0 < start → first_of (left ++ Q) ≡ first_of (W ++ Q) = λ more. let inner =
-      (are.begins.rises (omega (arith, more))).0 in first-remove W Q j (omega (arith, inner)) j_in in
-      let to : remove keys place ≡ P ++ (left ++ Q) =
-      ap (λ ks. remove ks place) whole ∙ ap (λ n. remove (P ++ (W ++ Q)) n) (let p : place ≡ length P + j =
-      omega (arith, length_P, before) in p)
-      ∙ remove-left P (W ++ Q) j ∙ ap (λ ks. P ++ ks) (remove-right W Q j j_in) in
-      let next : is_cut left Q ≡ true =
-      cut-without (take j W) key (drop (suc j) W) Q (subst (λ ks. is_cut ks Q ≡ true) split are.cut) in
-      let keys_all : list_all is_key_or_none (P ++ (W ++ Q)) ≡ true =
-      subst (λ ks. list_all is_key_or_none ks ≡ true) whole all in
       let part_all : list_all is_key_or_none W ≡ true =
-      (split-all is_key_or_none W Q (split-all is_key_or_none P (W ++ Q) keys_all).1).0 in
-      let left_all : list_all is_key_or_none left ≡ true =
-      all-without is_key_or_none (take j W) key (drop (suc j) W)
-      (subst (λ ks. list_all is_key_or_none ks ≡ true) split part_all) in
-      let exchanged =
-      part-exchanged P W left Q keys_all
-      (cut-start keys place start never are.begins (W ++ Q) (λ more. behind))
-      (cut-start keys place start never are.begins (left ++ Q) (λ more. same more ∙ behind))
-      are.cut next
-      (same-before keys place start never are.begins (first_of (left ++ Q)) (first_of (W ++ Q)) same) in
-      let end_is : length P + length W ≡ e = omega (arith, length_P, length_W) in
-      let R = repaired keys in (
-        record {
-          within = are.within;
-          exact =
-              ap repaired to ∙ exchanged
-              ∙ ap (λ ks. take (length P) (repaired ks)
-              ++ (repaired_below (first_of Q) left ++ drop (length P + length W) (repaired ks))) (sym whole)
-              ∙ ap₂ (λ m n. take m R ++ (repaired_below (first_of Q) left ++ drop n R)) length_P end_is
-              ∙ ap (λ ks. take start R ++ (ks ++ drop e R)) (sym are.exact);
-        },
-        let count = ap length are.exact ∙ cut-count left Q next (list_all-append is_key_or_none left Q
-            ∙ and_from (list_all is_key_or_none left) (list_all is_key_or_none Q) left_all (all-from e)) in
-            omega (arith, count, length-remove W j j_in, length_W),
-      )
+      (split-all is_key_or_none W Q (split-all is_key_or_none P (W ++ Q)
+      (subst (λ ks. list_all is_key_or_none ks ≡ true) whole all)).1).0 in
+      let is = exchanged-part e (remove W j) (remove keys place) are.begins up are.within
+      (ap (λ ks. remove ks place) whole ∙ ap (λ n. remove (P ++ (W ++ Q)) n) at_place
+      ∙ remove-left P (W ++ Q) j ∙ ap (λ ks. P ++ ks) (remove-right W Q j j_in))
+      (λ more. let inner = (are.begins.rises (omega (arith, more))).0 in
+      first-remove W Q j (omega (arith, inner)) j_in)
+      are.cut
+      (cut-without (take j W) key (drop (suc j) W) Q (subst (λ ks. is_cut ks Q ≡ true) split are.cut))
+      (all-without is_key_or_none (take j W) key (drop (suc j) W)
+      (subst (λ ks. list_all is_key_or_none ks ≡ true) split part_all)) are.exact in
+      (is.0, omega (arith, is.1, length-remove W j j_in, length_W))
 
 -- ---- the indices of shown elements with one more, or without one, once the keys around it are set
 pub map-take : {X Y : Type 0} (f : X → Y) (n : ℕ) (xs : List X) → take n (map f xs) ≡ map f (take n xs)

@@ -1,15 +1,14 @@
 -- Keys that are repaired part by part, where one more comes into a part.
-use Rattle.std.proofs.Common.{◌≡◌, ℕ, zero, suc, ◌+◌, ◌<◌, Bool, true, false, List, [], ◌∷◌, ◌++◌, length, take, drop, get_or, Option, Some, None, ◌&&◌, refl, sym, ap, ap₂, ◌∙◌, append-nil, append_assoc, length-append, arith}
+use Rattle.std.proofs.Common.{◌≡◌, ℕ, suc, ◌+◌, Bool, true, false, List, [], ◌∷◌, ◌++◌, length, take, drop, Option, Some, None, refl, sym, ap, ap₂, ◌∙◌, append-nil, append_assoc, length-append, arith}
 use Rattle.std.specs.List.{list_all}
 use Rattle.std.specs.Cmp.{IsStrictWeakOrder}
 use Rattle.std.specs.Cmp.Lexicographic.{nat_list_cmp_total}
-use Rattle.std.proofs.lemmas.Bool.{and_from, and_parts, both_ways, not-true, true_from_ne_false}
+use Rattle.std.proofs.lemmas.Bool.{and_from, and_parts}
 use Rattle.std.proofs.lemmas.List.Sorted.{ranks_by}
 use Rattle.std.proofs.lemmas.List.{take_at, drop_at}
 use Rattle.frac_keys.specs.Keys.{is_key, bytes_less}
 use Rattle.frac_keys.specs.Rising.{is_key_or_none}
-use Rattle.frac_keys.specs.Between.{keys_between}
-use Rattle.index_repair.specs.Repair.{repaired, repaired_below, filled, kept, are_below, is_below, is_up_to, NeverFall}
+use Rattle.index_repair.specs.Repair.{repaired, repaired_below, are_below, is_below, is_up_to, NeverFall}
 use Rattle.index_repair.proofs.CallerLemmas.{none_between, repaired_below-law, all-below, repaired-cut, under-last}
 use Rattle.live_view.specs.inner.Runs.{first_of, last_of, key_rises, is_cut}
 

@@ -1,5 +1,5 @@
 -- Where a search by an id ends among elements in the order of their ids.
-use Rattle.std.proofs.Common.{◌≡◌, ℕ, ◌+◌, ◌<◌, ◌≤◌, true, false, List, [], ◌∷◌, length, get_or, take, drop, Option, None, Result, Ok, Err, Ordering, Less, Equal, Greater, IfOk, IfErr, is_lt, nat_cmp, refl, sym, ap, ◌∙◌, length-take, length-drop, arith}
+use Rattle.std.proofs.Common.{◌≡◌, ℕ, ◌+◌, ◌<◌, ◌≤◌, true, List, [], ◌∷◌, length, get_or, None, Result, Ok, Err, Ordering, Equal, Greater, IfOk, IfErr, is_lt, nat_cmp, ap, ◌∙◌, length-take, length-drop, arith}
 use Rattle.std.specs.Cmp.Lexicographic.{slice_cmp}
 use Rattle.std.specs.List.Sorted.{IsBinarySearchResult, IsNonDecreasingBy, IsSearchInRange}
 use Rattle.std.specs.Ordering.{ordering_index, ordering_reverse}

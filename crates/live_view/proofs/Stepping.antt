@@ -1,6 +1,5 @@
 -- What is reached from ids over links, and the frames that are named there, one id more each time.
 use Rattle.std.proofs.Common.{◌≡◌, ℕ, ◌+◌, ◌<◌, Bool, true, false, ◌||◌, List, [], ◌∷◌, ◌++◌, length, take, get_or, Some, None, All, Contains, bytes_eq, filter, map, refl, sym, ap, ◌∙◌, subst, inl, inr}
-use Rattle.std.specs.Option.{option_map_or}
 use Rattle.std.proofs.lemmas.Bool.{or_cases, or_left, or_right}
 use Rattle.std.proofs.lemmas.List.{take_more}
 use Rattle.std.proofs.lemmas.List.Elements.{All-more, All-weaker}
@@ -15,7 +14,7 @@ use Rattle.links.specs.Names.{is_id, end_names}
 use Rattle.links.specs.Steps.{links_to, names_id}
 use Rattle.view.proofs.CallerLemmas.{namer-among}
 use Rattle.elem_store.proofs.CallerLemmas.{member}
-use Rattle.live_view.specs.inner.Reached.{HaveFrames, HaveLinked, HaveNamers, HasNamers, IsStartedBy, AreStartedBy, StaysKind}
+use Rattle.live_view.specs.inner.Reached.{AreAmong, HaveFrames, HaveLinked, HaveNamers, HasNamers, IsStartedBy, AreStartedBy, StaysKind}
 use Rattle.view.specs.Kept.{HaveRowsOf}
 
 -- ---- from one id
@@ -64,7 +63,7 @@ linked-none live from to same = record { kept = λ x h. same x ∙ h; linked = �
 pub linked-more : (live : List ElementValue) (ids : List (List ℕ)) (i : ℕ) (id : List ℕ)
     (from mid to : List (List ℕ)) → are_rising (ids_of live) ≡ true
     → i < length ids → id ≡ get_or ids i id → HaveLinked live (take i ids) from mid
-    → ((x : List ℕ) → is_among mid x ≡ true → is_among to x ≡ true)
+    → AreAmong mid to
     → ((e : ElementValue) (x : List ℕ) → element_of live id ≡ Some e → links_to x e ≡ true → is_among to x ≡ true)
     → HaveLinked live (take (i + 1) ids) from to
 linked-more live ids i id from mid to rising within there before kept linked = record {
@@ -84,8 +83,7 @@ namers-none passes live from to same =
 
 pub namers-more : (passes : List ℕ → ElementValue → Bool) (live : List ElementValue) (ids : List (List ℕ)) (i : ℕ)
     (id : List ℕ) (from mid to : List (List ℕ)) → i < length ids → id ≡ get_or ids i id
-    → HaveNamers passes live (take i ids) from mid
-    → ((x : List ℕ) → is_among mid x ≡ true → is_among to x ≡ true)
+    → HaveNamers passes live (take i ids) from mid → AreAmong mid to
     → ((e : ElementValue) → Contains live e → links_to id e ≡ true → passes id e ≡ true → is_among to e.id ≡ true)
     → HaveNamers passes live (take (i + 1) ids) from to
 namers-more passes live ids i id from mid to within there before kept naming = record {
@@ -101,8 +99,7 @@ namers-more passes live ids i id from mid to within there before kept naming = r
 
 -- what names some ids does with more ids
 pub namers-kept : (passes : List ℕ → ElementValue → Bool) (live : List ElementValue) (over from old new : List (List ℕ))
-    → ((x : List ℕ) → is_among old x ≡ true → is_among new x ≡ true) → HaveNamers passes live over from old
-    → HaveNamers passes live over from new
+    → AreAmong old new → HaveNamers passes live over from old → HaveNamers passes live over from new
 namers-kept passes live over from old new kept have = record {
   kept = λ x h. kept x (have.kept x h);
   naming = λ e x c own links is. kept e.id (have.naming e x c own links is);
@@ -117,7 +114,7 @@ LinkAmong passes live id namers ids =
 pub linking-more : (passes : ElementValue → Bool) (live : List ElementValue) (id : List ℕ) (namers : List (List ℕ))
     (i : ℕ) (namer : List ℕ) (old new : List (List ℕ)) → are_rising (ids_of live) ≡ true
     → i < length namers → namer ≡ get_or namers i namer → LinkAmong passes live id (take i namers) old
-    → ((x : List ℕ) → is_among old x ≡ true → is_among new x ≡ true)
+    → AreAmong old new
     → ((e : ElementValue) → element_of live namer ≡ Some e → links_to id e ≡ true → passes e ≡ true
     → is_among new namer ≡ true) → LinkAmong passes live id (take (i + 1) namers) new
 linking-more passes live id namers i namer old new rising within there before kept linking e c links is own =
@@ -137,7 +134,7 @@ frames-none live to e id c own names = cc
 pub frames-more : (live : List ElementValue) (ids : List (List ℕ)) (i : ℕ) (id : List ℕ) (old new : List (List ℕ))
     → are_rising (ids_of live) ≡ true
     → i < length ids → id ≡ get_or ids i id → HaveFrames live (take i ids) old
-    → ((x : List ℕ) → is_among old x ≡ true → is_among new x ≡ true)
+    → AreAmong old new
     → ((e : ElementValue) (frame : List ℕ) → element_of live id ≡ Some e → e.frame ≡ Some frame
     → is_among new frame ≡ true) → HaveFrames live (take (i + 1) ids) new
 frames-more live ids i id old new rising within there before kept named e frame c own names =
@@ -166,24 +163,21 @@ frames_of-more elements i e old new within there before are =
 
 -- ---- the kinds of one element more
 pub stays-kept : (live : List ElementValue) (old new : List (List ℕ))
-    → ((x : List ℕ) → is_among old x ≡ true → is_among new x ≡ true) → (e : ElementValue) → StaysKind live old e
-    → StaysKind live new e
+    → AreAmong old new → (e : ElementValue) → StaysKind live old e → StaysKind live new e
 stays-kept live old new kept e (inl same) = inl same
 stays-kept live old new kept e (inr has) = inr (λ m c names. kept m.id (has m c names))
 
 pub kinds-more : (live elements : List ElementValue) (i : ℕ) (e : ElementValue) (old new : List (List ℕ))
     → i < length elements → e ≡ get_or elements i e → All (StaysKind live old) (take i elements)
-    → ((x : List ℕ) → is_among old x ≡ true → is_among new x ≡ true) → StaysKind live new e
-    → All (StaysKind live new) (take (i + 1) elements)
+    → AreAmong old new → StaysKind live new e → All (StaysKind live new) (take (i + 1) elements)
 kinds-more live elements i e old new within there before kept own =
     All-more (StaysKind live new) elements i e within
     (All-weaker (StaysKind live old) (StaysKind live new) (stays-kept live old new kept) (take i elements) before)
     (subst (StaysKind live new) there own)
 
 -- what began some elements begins them with more ids
-pub started-kept : (elements : List ElementValue) (old new : List (List ℕ))
-    → ((x : List ℕ) → is_among old x ≡ true → is_among new x ≡ true) → AreStartedBy old elements
-    → AreStartedBy new elements
+pub started-kept : (elements : List ElementValue) (old new : List (List ℕ)) → AreAmong old new
+    → AreStartedBy old elements → AreStartedBy new elements
 started-kept elements old new kept started =
     All-weaker (IsStartedBy old) (IsStartedBy new) (λ e is. (kept e.id is.0, λ x links. kept x (is.1 x links)))
     elements

@@ -1,10 +1,10 @@
 -- What is shown of an element far from a change: it is settled as before, and has its key as before.
-use Rattle.std.proofs.Common.{◌≡◌, ℕ, Bool, true, false, cond, List, [], ◌∷◌, ◌++◌, map, Option, Some, None, bytes_eq, refl, sym, ap, ap₂, ◌∙◌, inl, inr}
+use Rattle.std.proofs.Common.{◌≡◌, ℕ, Bool, true, false, cond, List, [], ◌∷◌, map, Option, Some, None, bytes_eq, refl, sym, ap, ap₂, ◌∙◌, inl, inr}
 use Rattle.std.specs.Option.{option_map}
 use Rattle.std.proofs.lemmas.Bool.{cases_Bool}
 use Rattle.std.proofs.lemmas.Option.{same_Some}
 use Rattle.elem.specs.ElementValue.{ElementValue}
-use Rattle.elem.specs.Order.{has_id, HaveDistinctIds}
+use Rattle.elem.specs.Order.{HaveDistinctIds}
 use Rattle.elem_store.specs.Updates.{element_of, ids_of}
 use Rattle.view.specs.Settled.{settled, unsettled}
 use Rattle.index_repair.specs.Keyed.{index_of}

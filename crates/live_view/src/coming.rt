@@ -1,24 +1,21 @@
 //! An element that comes to a view or goes: the runs of keys around its place are repaired, what is
 //! near it is shown anew, and nothing else that is shown changes.
 
-ghost use Rattle.std.specs.Prelude.{◌≡◌, ℕ, ◌+◌, ◌<◌, ◌≤◌, [], ◌∷◌, Ok, Some, true, false, insert, length, slice_index_or, IfOk, IfSome, IsTrue, OnOk};
+ghost use Rattle.std.specs.Prelude.{◌≡◌, ◌+◌, ◌<◌, ◌≤◌, [], ◌∷◌, Ok, Some, true, insert, length, IfOk, IfSome, IsTrue, OnOk};
 ghost use Rattle.frac_keys.specs.Rising.{are_rising};
-ghost use Rattle.elem.specs.ElementValue.{ElementValue};
 ghost use Rattle.elem.specs.Order as order;
 ghost use Rattle.elem_store.specs.Updates as updates;
 ghost use Rattle.elem_store.specs.Updates.{ids_of};
 ghost use Rattle.index_repair.specs.Keyed.{with_index};
-ghost use Rattle.view.specs.Shown.{comes_before, is_live};
+ghost use Rattle.view.specs.Shown.{is_live};
 ghost use Rattle.live_view.specs.inner.Coming.{all_stored, rekeyed, AreAround, ArePutBeside, HasGone, IsComing, IsGoing, IsPlaceFor};
-ghost use Rattle.live_view.specs.inner.Reached.{AreIds};
-ghost use Rattle.view.specs.Kept.{HaveRowsOf};
 ghost use Rattle.live_view.specs.inner.Replacing.{HaveReplaced};
 
 use crate::ids::Ids;
-use crate::kept::{Kept, Parts, joined};
+use crate::kept::{Kept, joined};
 use crate::order::scene_order;
 use crate::places::{Put, order_of, place_of, place_shown, put_all, replace};
-use crate::reach::{add_all_namers, is_much, reached, started_by, surrounded};
+use crate::reach::{Board, add_all_namers, is_much, reached, started_by, surrounded};
 use crate::replacing::{puts_near, settled_after, with_index};
 use crate::runs::{Rekeying, keys_with, keys_without, stored_of};
 use crate::sharing::shared_as;
@@ -27,7 +24,7 @@ use board_base::List;
 use elem::{Element, SharedElement};
 use frac_keys::Key;
 use json_text::Text;
-use links::{LinkTable, rows_of};
+use links::rows_of;
 use std::alloc::{AllocError, Global};
 
 /// What is shown anew where an element comes: itself, and what is near it, at the places where it
@@ -53,13 +50,7 @@ impl Kept {
         ensures { IfOk result (λ found. IfSome found (HaveReplaced self (e.now ∷ []))) }
     {
         let alloc = self.allocator();
-        let Parts {
-            live,
-            shown,
-            table,
-            unsettled,
-        } = self.into_parts();
-        let (mut live, mut shown, mut table, mut unsettled) = (live, shown, table, unsettled);
+        let (mut live, mut shown, mut table, mut unsettled) = self.into_parts();
         let Err(at) = place_of(&live, e.id()) else {
             return Ok(None);
         };
@@ -70,7 +61,11 @@ impl Kept {
         let Some(rekeying) = keys_with(alloc, &live, &shown, place, index)? else {
             return Ok(None);
         };
-        let Some(coming) = draw_coming(alloc, &live, &shown, &table, e)? else {
+        let board = Board {
+            live: &live,
+            table: &table,
+        };
+        let Some(coming) = draw_coming(alloc, board, &shown, e)? else {
             return Ok(None);
         };
         let Coming { own, puts } = coming;
@@ -93,13 +88,7 @@ impl Kept {
         ensures { IfOk result (λ found. IfSome found (HasGone self id.now)) }
     {
         let alloc = self.allocator();
-        let Parts {
-            live,
-            shown,
-            table,
-            unsettled,
-        } = self.into_parts();
-        let (mut live, mut shown, mut table, mut unsettled) = (live, shown, table, unsettled);
+        let (mut live, mut shown, mut table, mut unsettled) = self.into_parts();
         let Ok(at) = place_of(&live, id) else {
             return Ok(Some(joined(live, shown, table, unsettled)));
         };
@@ -110,7 +99,11 @@ impl Kept {
         let Some(rekeying) = keys_without(alloc, &live, &shown, place)? else {
             return Ok(None);
         };
-        let Some(puts) = draw_going(alloc, &live, &shown, &table, &e)? else {
+        let board = Board {
+            live: &live,
+            table: &table,
+        };
+        let Some(puts) = draw_going(alloc, board, &shown, &e)? else {
             return Ok(None);
         };
         let rows = rows_of(alloc, e.get())?;
@@ -134,15 +127,11 @@ fn place_for(live: &Vec<SharedElement>, shown: &Vec<SharedElement>, e: &Element)
     let Err(place) = shown.binary_search_by(|s| order_of(live, s, e)) else {
         return None;
     };
-    if comes_behind(live, shown, place, e) && comes_ahead(live, shown, place, e) {
-        Some(place)
-    } else {
-        None
-    }
+    comes_at(live, shown, place, e).then_some(place)
 }
 
-/// Whether an element comes behind what stands before a place.
-fn comes_behind(
+/// Whether an element comes behind what stands before a place, and before what stands there.
+fn comes_at(
     live: &Vec<SharedElement>,
     shown: &Vec<SharedElement>,
     place: usize,
@@ -150,52 +139,33 @@ fn comes_behind(
 ) -> bool
     requires ordered { are_rising (ids_of live.now.items) ≡ true }
     requires within { place ≤ length shown.now.items }
-    ensures { IsTrue result → (i : ℕ) (d : ElementValue) → i + 1 ≡ place
-        → comes_before (slice_index_or
-        (all_stored live.now.items shown.now.items) i d) e.now ≡ true }
+    ensures { IsTrue result
+        → IsPlaceFor (all_stored live.now.items shown.now.items) e.now place }
 {
-    place == 0 || scene_order(stored_of(live, shown[place - 1].get()), e).is_lt()
-}
-
-/// Whether an element comes before what stands at a place.
-fn comes_ahead(
-    live: &Vec<SharedElement>,
-    shown: &Vec<SharedElement>,
-    place: usize,
-    e: &Element,
-) -> bool
-    requires ordered { are_rising (ids_of live.now.items) ≡ true }
-    requires within { place ≤ length shown.now.items }
-    ensures { IsTrue result → (d : ElementValue) → place < length shown.now.items
-        → comes_before e.now (slice_index_or
-        (all_stored live.now.items shown.now.items) place d) ≡ true }
-{
-    place == shown.len() || scene_order(e, stored_of(live, shown[place].get())).is_lt()
+    let behind = place == 0 || scene_order(stored_of(&*live, shown[place - 1].get()), e).is_lt();
+    behind && (place == shown.len() || scene_order(e, stored_of(live, shown[place].get())).is_lt())
 }
 
 /// What is shown anew where an element comes, if all of it is found and it isn't much.
 fn draw_coming(
     alloc: Global,
-    live: &Vec<SharedElement>,
+    board: Board<'_>,
     shown: &Vec<SharedElement>,
-    table: &LinkTable,
     e: &SharedElement,
 ) -> Result<Option<Coming>, AllocError>
-    requires ordered { are_rising (ids_of live.now.items) ≡ true }
-    requires table { HaveRowsOf live.now.items table.now.rows }
     ensures { IfOk result (λ found. IfSome found
-        (λ c. IsComing live.now.items shown.now.items e.now c.own c.puts.items)) }
+        (λ c. IsComing board.entry.live.now.items shown.now.items e.now c.own c.puts.items)) }
 {
-    let Some(around) = find_around(alloc, live, table, e)? else {
+    let Some(around) = find_around(alloc, board, e)? else {
         return Ok(None);
     };
     let news = alone(alloc, e)?;
-    let part = settled_after(alloc, live, &news, &around.wide.list)?;
+    let part = settled_after(alloc, board.live, &news, &around.wide)?;
     let Some(own) = element_in(&part, e.id())? else {
         return Ok(None);
     };
     let own = shared_as(alloc, e, own)?;
-    match puts_beside(alloc, live, shown, part, &around.near, e.id())? {
+    match puts_beside(alloc, board.live, shown, part, &around.near, e.id())? {
         Some(puts) => Ok(Some(Coming { own, puts })),
         None => Ok(None),
     }
@@ -204,48 +174,39 @@ fn draw_coming(
 /// What is shown anew where an element goes, if all of it is found and it isn't much.
 fn draw_going(
     alloc: Global,
-    live: &Vec<SharedElement>,
+    board: Board<'_>,
     shown: &Vec<SharedElement>,
-    table: &LinkTable,
     e: &SharedElement,
 ) -> Result<Option<Vec<Put>>, AllocError>
-    requires ordered { are_rising (ids_of live.now.items) ≡ true }
-    requires table { HaveRowsOf live.now.items table.now.rows }
     ensures { IfOk result
-        (λ found. IfSome found (λ puts. IsGoing live.now.items shown.now.items e.now puts.items)) }
+        (λ found. IfSome found
+        (λ puts. IsGoing board.entry.live.now.items shown.now.items e.now puts.items)) }
 {
-    let Some(around) = find_around(alloc, live, table, e)? else {
+    let Some(around) = find_around(alloc, board, e)? else {
         return Ok(None);
     };
     let others = around.wide.without(alloc, e.id())?;
-    let part = settled_after(alloc, live, &Vec::new(alloc), &others.list)?;
-    puts_beside(alloc, live, shown, part, &around.near, e.id())
+    let part = settled_after(alloc, board.live, &Vec::new(alloc), &others)?;
+    puts_beside(alloc, board.live, shown, part, &around.near, e.id())
 }
 
 /// What is near an element and all that name it, and what surrounds that, unless it is much.
 fn find_around(
     alloc: Global,
-    live: &Vec<SharedElement>,
-    table: &LinkTable,
+    board: Board<'_>,
     e: &SharedElement,
 ) -> Result<Option<Around>, AllocError>
-    requires ordered { are_rising (ids_of live.now.items) ≡ true }
-    requires table { HaveRowsOf live.now.items table.now.rows }
-    ensures around { IfOk result (λ found. IfSome found
-        (λ a. AreAround live.now.items e.now a.near.list.items a.wide.list.items)) }
-    ensures near { IfOk result
-        (λ found. IfSome found (λ a. AreIds a.near.list.items a.near.seen)) }
-    ensures wide { IfOk result
-        (λ found. IfSome found (λ a. AreIds a.wide.list.items a.wide.seen)) }
+    ensures { IfOk result (λ found. IfSome found
+        (λ a. AreAround board.entry.live.now.items e.now a.near.list.items a.wide.list.items)) }
 {
     let news = alone(alloc, e)?;
     let mut start = started_by(alloc, &news)?;
-    add_all_namers(&mut start, e.id(), live, table)?;
-    let near = reached(alloc, &start, live, table)?;
-    if is_much(&near, live) {
+    add_all_namers(&mut start, e.id(), board)?;
+    let near = reached(alloc, &start, board)?;
+    if is_much(&near, board) {
         return Ok(None);
     }
-    let wide = surrounded(alloc, &near, &news, live, table)?;
+    let wide = surrounded(alloc, &near, &news, board)?;
     Ok(Some(Around { near, wide }))
 }
 
@@ -287,7 +248,6 @@ fn puts_beside(
     near: &Ids,
     id: &Text,
 ) -> Result<Option<Vec<Put>>, AllocError>
-    requires { AreIds near.now.list.items near.now.seen }
     ensures { IfOk result
         (λ found. IfSome found
         (λ puts. ArePutBeside shown.now.items part near.now.list.items id.now puts.items)) }

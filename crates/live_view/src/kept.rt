@@ -1,12 +1,8 @@
 //! Live elements, and what is shown of them.
 
-ghost use Rattle.std.specs.Prelude.{◌≡◌, List as Items, [], IfOk, map, IsPermutation};
-ghost use Rattle.elem.specs.ElementValue.{ElementValue};
-ghost use Rattle.elem_store.specs.Updates.{ids_of};
+ghost use Rattle.std.specs.Prelude.{◌≡◌, [], IfOk};
 ghost use Rattle.view.specs.Kept.{AreOthersAsStored, AreOthersKeyedAsStored, HaveRowsOf};
-ghost use Rattle.view.specs.Settled.{AreSettled};
-ghost use Rattle.index_repair.specs.Keyed.{HaveRisingKeys};
-ghost use Rattle.view.specs.Shown.{live_elements, shown, bare, IsSceneOrder};
+ghost use Rattle.view.specs.Shown.{shown, IsView};
 ghost use Rattle.live_view.specs.inner.Replacing.{IsLiveView};
 
 use crate::drawing::table_of;
@@ -32,15 +28,6 @@ pub(crate) struct Kept {
     pub(crate) table: LinkTable,
 
     /// The ids of those that may be shown otherwise than they are stored, or with another key.
-    pub(crate) unsettled: Unsettled,
-}
-
-/// The parts of what is kept, while it changes.
-#[derive(Drop)]
-pub(crate) struct Parts {
-    pub(crate) live: Vec<SharedElement>,
-    pub(crate) shown: Vec<SharedElement>,
-    pub(crate) table: LinkTable,
     pub(crate) unsettled: Unsettled,
 }
 
@@ -81,11 +68,10 @@ impl Kept {
         }
     }
 
-    /// Its parts.
-    pub(crate) fn into_parts(self) -> Parts
-        ensures same { result.live.items ≡ self }
-        ensures are { IsLiveView result.live.items result.shown.items result.table.rows
-            result.unsettled }
+    /// Its parts, which may change apart.
+    pub(crate) fn into_parts(self) -> (Vec<SharedElement>, Vec<SharedElement>, LinkTable, Unsettled)
+        ensures same { result.0.items ≡ self }
+        ensures are { IsLiveView result.0.items result.1.items result.2.rows result.3 }
     {
         let Kept {
             live,
@@ -93,25 +79,12 @@ impl Kept {
             table,
             unsettled,
         } = self;
-        Parts {
-            live,
-            shown,
-            table,
-            unsettled,
-        }
+        (live, shown, table, unsettled)
     }
 
     /// What is shown.
     pub(crate) fn elements(&self) -> &[SharedElement]
-        ensures exact { result.now ≡ shown self.now }
-        ensures keys { HaveRisingKeys result.now }
-        ensures order { (ordered : Items ElementValue) × IsSceneOrder self.now ordered
-            × (ids_of result.now ≡ ids_of ordered) }
-        ensures ids { IsPermutation (ids_of self.now) (ids_of result.now) }
-        ensures others { IsPermutation (map bare self.now) (map bare result.now) }
-        ensures settled { AreSettled result.now }
-        ensures again { (stored : Items ElementValue) → IsPermutation result.now stored
-            → shown (live_elements stored) ≡ result.now }
+        ensures { IsView self.now result.now }
     {
         self.shown.as_slice()
     }

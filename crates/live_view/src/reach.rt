@@ -9,7 +9,7 @@ ghost use Rattle.links.specs.Looks.{kind_at};
 ghost use Rattle.links.specs.Names as names;
 ghost use Rattle.links.specs.Names.{is_id};
 ghost use Rattle.links.specs.Steps as steps;
-ghost use Rattle.live_view.specs.inner.Reached.{is_text_or_to, is_text_there, is_to_text, AreIds, AreStartedBy, AreSurrounded, HasNamers, HaveFrames, HaveLinked, HaveNamers, HaveReached, StaysKind};
+ghost use Rattle.live_view.specs.inner.Reached.{is_text_or_to, is_to_text, AreAmong, AreStartedBy, AreSurrounded, HasNamers, HaveFrames, HaveLinked, HaveNamers, HaveReached, StaysKind};
 ghost use Rattle.view.specs.Kept.{HaveRowsOf};
 
 use crate::ids::Ids;
@@ -19,13 +19,21 @@ use json_text::Text;
 use links::{LinkTable, is_text, linked_ids, links_to};
 use std::alloc::{AllocError, Global};
 
+/// Live elements in the order of their ids, and who of them names whom.
+#[derive(Clone, Copy)]
+pub(crate) struct Board<'a> {
+    pub(crate) live: &'a Vec<SharedElement>,
+    pub(crate) table: &'a LinkTable,
+    ghost ordered: { are_rising (ids_of live.now.items) ≡ true },
+    ghost rows: { HaveRowsOf live.now.items table.now.rows },
+}
+
 /// So many elements are never much, as on a small board all is made anew as fast as some of it.
 const ALWAYS_FEW: usize = 16;
 
 /// The ids of elements, and those that they link to.
 pub(crate) fn started_by(alloc: Global, elements: &[SharedElement]) -> Result<Ids, AllocError>
-    ensures are { IfOk result (λ ids. AreIds ids.list.items ids.seen) }
-    ensures started { IfOk result (λ ids. AreStartedBy ids.list.items elements.now) }
+    ensures { IfOk result (λ ids. AreStartedBy ids.list.items elements.now) }
 {
     let mut ids = Ids::new(alloc);
     for e in elements {
@@ -40,70 +48,43 @@ pub(crate) fn started_by(alloc: Global, elements: &[SharedElement]) -> Result<Id
 pub(crate) fn add_namers(
     ids: &mut Ids,
     elements: &Vec<SharedElement>,
-    live: &Vec<SharedElement>,
-    table: &LinkTable,
+    board: Board<'_>,
 ) -> Result<(), AllocError>
-    requires ids { AreIds ids.old.list.items ids.old.seen }
-    requires ordered { are_rising (ids_of live.now.items) ≡ true }
-    requires table { HaveRowsOf live.now.items table.now.rows }
-    ensures are { OnOk result (AreIds ids.new.list.items ids.new.seen) }
-    ensures kept { OnOk result ((id : Items ℕ) → is_among ids.old.list.items id ≡ true
-        → is_among ids.new.list.items id ≡ true) }
-    ensures namers { OnOk result (All (StaysKind live.now.items ids.new.list.items)
+    ensures kept { OnOk result (AreAmong ids.old.list.items ids.new.list.items) }
+    ensures namers { OnOk result (All (StaysKind board.entry.live.now.items ids.new.list.items)
         elements.now.items) }
 {
     for e in elements {
-        add_namers_of(ids, e.get(), live, table)?;
+        add_namers_of(ids, e.get(), board)?;
     }
     Ok(())
 }
 
 /// Adds all that name an element, where what is held of its id is of another kind, or where there
 /// is none.
-fn add_namers_of(
-    ids: &mut Ids,
-    e: &Element,
-    live: &Vec<SharedElement>,
-    table: &LinkTable,
-) -> Result<(), AllocError>
-    requires ids { AreIds ids.old.list.items ids.old.seen }
-    requires ordered { are_rising (ids_of live.now.items) ≡ true }
-    requires table { HaveRowsOf live.now.items table.now.rows }
-    ensures are { OnOk result (AreIds ids.new.list.items ids.new.seen) }
-    ensures kept { OnOk result ((id : Items ℕ) → is_among ids.old.list.items id ≡ true
-        → is_among ids.new.list.items id ≡ true) }
-    ensures namers { OnOk result (StaysKind live.now.items ids.new.list.items e.now) }
+fn add_namers_of(ids: &mut Ids, e: &Element, board: Board<'_>) -> Result<(), AllocError>
+    ensures kept { OnOk result (AreAmong ids.old.list.items ids.new.list.items) }
+    ensures namers { OnOk result (StaysKind board.entry.live.now.items ids.new.list.items e.now) }
 {
-    if is_kind_held(live, e) {
+    if is_kind_held(board, e) {
         return Ok(());
     }
-    add_all_namers(ids, &e.id, live, table)
+    add_all_namers(ids, &e.id, board)
 }
 
 /// Adds all that name an id.
-pub(crate) fn add_all_namers(
-    ids: &mut Ids,
-    id: &Text,
-    live: &Vec<SharedElement>,
-    table: &LinkTable,
-) -> Result<(), AllocError>
-    requires ids { AreIds ids.old.list.items ids.old.seen }
-    requires ordered { are_rising (ids_of live.now.items) ≡ true }
-    requires table { HaveRowsOf live.now.items table.now.rows }
-    ensures are { OnOk result (AreIds ids.new.list.items ids.new.seen) }
-    ensures kept { OnOk result ((other : Items ℕ) → is_among ids.old.list.items other ≡ true
-        → is_among ids.new.list.items other ≡ true) }
-    ensures namers { OnOk result (HasNamers live.now.items ids.new.list.items id.now) }
+pub(crate) fn add_all_namers(ids: &mut Ids, id: &Text, board: Board<'_>) -> Result<(), AllocError>
+    ensures kept { OnOk result (AreAmong ids.old.list.items ids.new.list.items) }
+    ensures namers { OnOk result (HasNamers board.entry.live.now.items ids.new.list.items id.now) }
 {
-    ids.add_all(table.namers(id))
+    ids.add_all(board.table.namers(id))
 }
 
 /// Whether what is held of an element's id is of its kind.
-fn is_kind_held(live: &Vec<SharedElement>, e: &Element) -> bool
-    requires { are_rising (ids_of live.now.items) ≡ true }
-    ensures { IsTrue result → kind_at live.now.items e.now.id ≡ Some e.now.kind }
+fn is_kind_held(board: Board<'_>, e: &Element) -> bool
+    ensures { IsTrue result → kind_at board.entry.live.now.items e.now.id ≡ Some e.now.kind }
 {
-    match element_of(live, &e.id) {
+    match element_of(board.live, &e.id) {
         Some(held) => have_one_kind(held, e),
         None => false,
     }
@@ -133,28 +114,20 @@ fn have_one_kind(e: &Element, other: &Element) -> bool
 /// The ids of what may be settled otherwise once the elements of some ids change: these, what they
 /// link to, the texts in all that, and what links to a text among these. The arrows that are bound
 /// to what else these link to look at its kind alone.
-pub(crate) fn reached(
-    alloc: Global,
-    from: &Ids,
-    live: &Vec<SharedElement>,
-    table: &LinkTable,
-) -> Result<Ids, AllocError>
-    requires ordered { are_rising (ids_of live.now.items) ≡ true }
-    requires table { HaveRowsOf live.now.items table.now.rows }
-    ensures are { IfOk result (λ ids. AreIds ids.list.items ids.seen) }
-    ensures reached { IfOk result
-        (λ ids. HaveReached live.now.items from.now.list.items ids.list.items) }
+pub(crate) fn reached(alloc: Global, from: &Ids, board: Board<'_>) -> Result<Ids, AllocError>
+    ensures { IfOk result
+        (λ ids. HaveReached board.entry.live.now.items from.now.list.items ids.list.items) }
 {
-    let one = with_linked(alloc, from, live)?;
-    let two = with_texts(alloc, &one, live, table)?;
-    with_links_to_texts(alloc, &two, live, table)
+    let one = with_linked(alloc, from, board)?;
+    let two = with_namers(alloc, &Ids::new(alloc), &one, board)?;
+    with_links_to_texts(alloc, &two, board)
 }
 
 /// Whether so much is near that a view made anew costs less than to follow the change: each of
 /// these is looked for at its place in both kept views, which costs about four times what an
 /// element costs that is shown anew with all others.
-pub(crate) fn is_much(near: &Ids, live: &Vec<SharedElement>) -> bool {
-    near.list.len() > ALWAYS_FEW + live.len() / 4
+pub(crate) fn is_much(near: &Ids, board: Board<'_>) -> bool {
+    near.list.len() > ALWAYS_FEW + board.live.len() / 4
 }
 
 /// What is needed to settle what is near: what it links to, and what that links to; what links to
@@ -164,99 +137,55 @@ pub(crate) fn surrounded(
     alloc: Global,
     near: &Ids,
     news: &Vec<SharedElement>,
-    live: &Vec<SharedElement>,
-    table: &LinkTable,
+    board: Board<'_>,
 ) -> Result<Ids, AllocError>
-    requires near { AreIds near.now.list.items near.now.seen }
-    requires ordered { are_rising (ids_of live.now.items) ≡ true }
-    requires table { HaveRowsOf live.now.items table.now.rows }
-    ensures are { IfOk result (λ ids. AreIds ids.list.items ids.seen) }
-    ensures surrounded { IfOk result
-        (λ ids. AreSurrounded live.now.items news.now.items near.now.list.items ids.list.items) }
+    ensures { IfOk result
+        (λ ids. AreSurrounded board.entry.live.now.items news.now.items near.now.list.items
+        ids.list.items) }
 {
-    let one = with_linked(alloc, near, live)?;
-    let two = with_linked(alloc, &one, live)?;
-    let mut wide = with_namers(alloc, near, &two, live, table)?;
-    add_frames_at(&mut wide, near, live)?;
+    let one = with_linked(alloc, near, board)?;
+    let two = with_linked(alloc, &one, board)?;
+    let mut wide = with_namers(alloc, near, &two, board)?;
+    add_frames_at(&mut wide, near, board)?;
     add_frames_of(&mut wide, news)?;
     Ok(wide)
 }
 
 /// The ids, and what their elements link to.
-fn with_linked(alloc: Global, from: &Ids, live: &Vec<SharedElement>) -> Result<Ids, AllocError>
-    requires { are_rising (ids_of live.now.items) ≡ true }
-    ensures are { IfOk result (λ ids. AreIds ids.list.items ids.seen) }
-    ensures linked { IfOk result
-        (λ ids. HaveLinked live.now.items from.now.list.items from.now.list.items ids.list.items) }
-{
-    let mut to = from.copied(alloc)?;
-    for id in &from.list {
-        add_linked_by(alloc, &mut to, id, live)?;
-    }
-    Ok(to)
-}
-
-/// The ids, and the texts that link to them.
-fn with_texts(
-    alloc: Global,
-    from: &Ids,
-    live: &Vec<SharedElement>,
-    table: &LinkTable,
-) -> Result<Ids, AllocError>
-    requires ordered { are_rising (ids_of live.now.items) ≡ true }
-    requires table { HaveRowsOf live.now.items table.now.rows }
-    ensures are { IfOk result (λ ids. AreIds ids.list.items ids.seen) }
-    ensures texts { IfOk result
-        (λ ids. HaveNamers is_text_there live.now.items from.now.list.items from.now.list.items
+fn with_linked(alloc: Global, from: &Ids, board: Board<'_>) -> Result<Ids, AllocError>
+    ensures { IfOk result
+        (λ ids. HaveLinked board.entry.live.now.items from.now.list.items from.now.list.items
         ids.list.items) }
 {
     let mut to = from.copied(alloc)?;
     for id in &from.list {
-        add_linking(&mut to, id, true, live, table)?;
+        add_linked_by(alloc, &mut to, id, board)?;
     }
     Ok(to)
 }
 
 /// The ids, and what links to those of them that are texts.
-fn with_links_to_texts(
-    alloc: Global,
-    from: &Ids,
-    live: &Vec<SharedElement>,
-    table: &LinkTable,
-) -> Result<Ids, AllocError>
-    requires ordered { are_rising (ids_of live.now.items) ≡ true }
-    requires table { HaveRowsOf live.now.items table.now.rows }
-    ensures are { IfOk result (λ ids. AreIds ids.list.items ids.seen) }
-    ensures to_texts { IfOk result
-        (λ ids. HaveNamers (is_to_text live.now.items) live.now.items from.now.list.items
-        from.now.list.items ids.list.items) }
+fn with_links_to_texts(alloc: Global, from: &Ids, board: Board<'_>) -> Result<Ids, AllocError>
+    ensures { IfOk result
+        (λ ids. HaveNamers (is_to_text board.entry.live.now.items) board.entry.live.now.items
+        from.now.list.items from.now.list.items ids.list.items) }
 {
     let mut to = from.copied(alloc)?;
     for id in &from.list {
-        add_linking_to_text(&mut to, id, live, table)?;
+        add_linking_to_text(&mut to, id, board)?;
     }
     Ok(to)
 }
 
 /// The ids, what links to those of them that are near, and the texts that link to the others.
-fn with_namers(
-    alloc: Global,
-    near: &Ids,
-    from: &Ids,
-    live: &Vec<SharedElement>,
-    table: &LinkTable,
-) -> Result<Ids, AllocError>
-    requires near { AreIds near.now.list.items near.now.seen }
-    requires ordered { are_rising (ids_of live.now.items) ≡ true }
-    requires table { HaveRowsOf live.now.items table.now.rows }
-    ensures are { IfOk result (λ ids. AreIds ids.list.items ids.seen) }
-    ensures namers { IfOk result
-        (λ ids. HaveNamers (is_text_or_to near.now.list.items) live.now.items from.now.list.items
-        from.now.list.items ids.list.items) }
+fn with_namers(alloc: Global, near: &Ids, from: &Ids, board: Board<'_>) -> Result<Ids, AllocError>
+    ensures { IfOk result
+        (λ ids. HaveNamers (is_text_or_to near.now.list.items) board.entry.live.now.items
+        from.now.list.items from.now.list.items ids.list.items) }
 {
     let mut to = from.copied(alloc)?;
     for id in &from.list {
-        add_linking(&mut to, id, !near.has(id), live, table)?;
+        add_linking(&mut to, id, !near.has(id), board)?;
     }
     Ok(to)
 }
@@ -266,18 +195,14 @@ fn add_linked_by(
     alloc: Global,
     ids: &mut Ids,
     id: &Text,
-    live: &Vec<SharedElement>,
+    board: Board<'_>,
 ) -> Result<(), AllocError>
-    requires ids { AreIds ids.old.list.items ids.old.seen }
-    requires ordered { are_rising (ids_of live.now.items) ≡ true }
-    ensures are { OnOk result (AreIds ids.new.list.items ids.new.seen) }
-    ensures kept { OnOk result ((other : Items ℕ) → is_among ids.old.list.items other ≡ true
-        → is_among ids.new.list.items other ≡ true) }
+    ensures kept { OnOk result (AreAmong ids.old.list.items ids.new.list.items) }
     ensures linked { OnOk result ((e : ElementValue) (other : Items ℕ)
-        → updates.element_of live.now.items id.now ≡ Some e → steps.links_to other e ≡ true
-        → is_among ids.new.list.items other ≡ true) }
+        → updates.element_of board.entry.live.now.items id.now ≡ Some e
+        → steps.links_to other e ≡ true → is_among ids.new.list.items other ≡ true) }
 {
-    match element_of(live, id) {
+    match element_of(board.live, id) {
         Some(e) => add_linked(alloc, ids, e),
         None => Ok(()),
     }
@@ -285,9 +210,7 @@ fn add_linked_by(
 
 /// Adds what an element links to.
 fn add_linked(alloc: Global, ids: &mut Ids, e: &Element) -> Result<(), AllocError>
-    requires { AreIds ids.old.list.items ids.old.seen }
-    ensures are { OnOk result (AreIds ids.new.list.items ids.new.seen) }
-    ensures ids { OnOk result ((id : Items ℕ)
+    ensures { OnOk result ((id : Items ℕ)
         → is_among ids.new.list.items id
         ≡ (steps.links_to id e.now || is_among ids.old.list.items id)) }
 {
@@ -296,24 +219,14 @@ fn add_linked(alloc: Global, ids: &mut Ids, e: &Element) -> Result<(), AllocErro
 }
 
 /// Adds what links to an id, if this is that of a text.
-fn add_linking_to_text(
-    ids: &mut Ids,
-    id: &Text,
-    live: &Vec<SharedElement>,
-    table: &LinkTable,
-) -> Result<(), AllocError>
-    requires ids { AreIds ids.old.list.items ids.old.seen }
-    requires ordered { are_rising (ids_of live.now.items) ≡ true }
-    requires table { HaveRowsOf live.now.items table.now.rows }
-    ensures are { OnOk result (AreIds ids.new.list.items ids.new.seen) }
-    ensures kept { OnOk result ((other : Items ℕ) → is_among ids.old.list.items other ≡ true
-        → is_among ids.new.list.items other ≡ true) }
-    ensures linking { OnOk result ((e : ElementValue) → Contains live.now.items e
-        → steps.links_to id.now e ≡ true → is_to_text live.now.items id.now e ≡ true
+fn add_linking_to_text(ids: &mut Ids, id: &Text, board: Board<'_>) -> Result<(), AllocError>
+    ensures kept { OnOk result (AreAmong ids.old.list.items ids.new.list.items) }
+    ensures linking { OnOk result ((e : ElementValue) → Contains board.entry.live.now.items e
+        → steps.links_to id.now e ≡ true → is_to_text board.entry.live.now.items id.now e ≡ true
         → is_among ids.new.list.items e.id ≡ true) }
 {
-    match element_of(live, id) {
-        Some(e) if is_text(e) => add_linking(ids, id, false, live, table),
+    match element_of(board.live, id) {
+        Some(e) if is_text(e) => add_linking(ids, id, false, board),
         _ => Ok(()),
     }
 }
@@ -324,22 +237,16 @@ fn add_linking(
     ids: &mut Ids,
     id: &Text,
     texts_alone: bool,
-    live: &Vec<SharedElement>,
-    table: &LinkTable,
+    board: Board<'_>,
 ) -> Result<(), AllocError>
-    requires ids { AreIds ids.old.list.items ids.old.seen }
-    requires ordered { are_rising (ids_of live.now.items) ≡ true }
-    requires table { HaveRowsOf live.now.items table.now.rows }
-    ensures are { OnOk result (AreIds ids.new.list.items ids.new.seen) }
-    ensures kept { OnOk result ((other : Items ℕ) → is_among ids.old.list.items other ≡ true
-        → is_among ids.new.list.items other ≡ true) }
-    ensures linking { OnOk result ((e : ElementValue) → Contains live.now.items e
+    ensures kept { OnOk result (AreAmong ids.old.list.items ids.new.list.items) }
+    ensures linking { OnOk result ((e : ElementValue) → Contains board.entry.live.now.items e
         → steps.links_to id.now e ≡ true → (not texts_alone || names.is_text e.kind) ≡ true
         → is_among ids.new.list.items e.id ≡ true) }
 {
-    let namers = table.namers(id);
+    let namers = board.table.namers(id);
     for namer in namers {
-        add_if_linking(ids, namer, id, texts_alone, live)?;
+        add_if_linking(ids, namer, id, texts_alone, board)?;
     }
     Ok(())
 }
@@ -350,52 +257,40 @@ fn add_if_linking(
     namer: &Text,
     id: &Text,
     texts_alone: bool,
-    live: &Vec<SharedElement>,
+    board: Board<'_>,
 ) -> Result<(), AllocError>
-    requires ids { AreIds ids.old.list.items ids.old.seen }
-    requires ordered { are_rising (ids_of live.now.items) ≡ true }
-    ensures are { OnOk result (AreIds ids.new.list.items ids.new.seen) }
-    ensures kept { OnOk result ((other : Items ℕ) → is_among ids.old.list.items other ≡ true
-        → is_among ids.new.list.items other ≡ true) }
+    ensures kept { OnOk result (AreAmong ids.old.list.items ids.new.list.items) }
     ensures linking { OnOk result ((e : ElementValue)
-        → updates.element_of live.now.items namer.now ≡ Some e → steps.links_to id.now e ≡ true
-        → (not texts_alone || names.is_text e.kind) ≡ true
+        → updates.element_of board.entry.live.now.items namer.now ≡ Some e
+        → steps.links_to id.now e ≡ true → (not texts_alone || names.is_text e.kind) ≡ true
         → is_among ids.new.list.items namer.now ≡ true) }
 {
-    match element_of(live, namer) {
+    match element_of(board.live, namer) {
         Some(e) if (!texts_alone || is_text(e)) && links_to(id, e) => ids.add(namer),
         _ => Ok(()),
     }
 }
 
 /// Adds the frames that the elements of some ids name.
-fn add_frames_at(ids: &mut Ids, at: &Ids, live: &Vec<SharedElement>) -> Result<(), AllocError>
-    requires ids { AreIds ids.old.list.items ids.old.seen }
-    requires ordered { are_rising (ids_of live.now.items) ≡ true }
-    ensures are { OnOk result (AreIds ids.new.list.items ids.new.seen) }
-    ensures kept { OnOk result ((other : Items ℕ) → is_among ids.old.list.items other ≡ true
-        → is_among ids.new.list.items other ≡ true) }
+fn add_frames_at(ids: &mut Ids, at: &Ids, board: Board<'_>) -> Result<(), AllocError>
+    ensures kept { OnOk result (AreAmong ids.old.list.items ids.new.list.items) }
     ensures frames { OnOk result
-        (HaveFrames live.now.items at.now.list.items ids.new.list.items) }
+        (HaveFrames board.entry.live.now.items at.now.list.items ids.new.list.items) }
 {
     for id in &at.list {
-        add_frame_at(ids, id, live)?;
+        add_frame_at(ids, id, board)?;
     }
     Ok(())
 }
 
 /// Adds the frame that the element of an id names.
-fn add_frame_at(ids: &mut Ids, id: &Text, live: &Vec<SharedElement>) -> Result<(), AllocError>
-    requires ids { AreIds ids.old.list.items ids.old.seen }
-    requires ordered { are_rising (ids_of live.now.items) ≡ true }
-    ensures are { OnOk result (AreIds ids.new.list.items ids.new.seen) }
-    ensures kept { OnOk result ((other : Items ℕ) → is_among ids.old.list.items other ≡ true
-        → is_among ids.new.list.items other ≡ true) }
+fn add_frame_at(ids: &mut Ids, id: &Text, board: Board<'_>) -> Result<(), AllocError>
+    ensures kept { OnOk result (AreAmong ids.old.list.items ids.new.list.items) }
     ensures frame { OnOk result ((e : ElementValue) (frame : Items ℕ)
-        → updates.element_of live.now.items id.now ≡ Some e → e.frame ≡ Some frame
+        → updates.element_of board.entry.live.now.items id.now ≡ Some e → e.frame ≡ Some frame
         → is_among ids.new.list.items frame ≡ true) }
 {
-    match element_of(live, id) {
+    match element_of(board.live, id) {
         Some(e) => add_frame(ids, e),
         None => Ok(()),
     }
@@ -403,10 +298,7 @@ fn add_frame_at(ids: &mut Ids, id: &Text, live: &Vec<SharedElement>) -> Result<(
 
 /// Adds the frames that elements name.
 fn add_frames_of(ids: &mut Ids, elements: &Vec<SharedElement>) -> Result<(), AllocError>
-    requires { AreIds ids.old.list.items ids.old.seen }
-    ensures are { OnOk result (AreIds ids.new.list.items ids.new.seen) }
-    ensures kept { OnOk result ((other : Items ℕ) → is_among ids.old.list.items other ≡ true
-        → is_among ids.new.list.items other ≡ true) }
+    ensures kept { OnOk result (AreAmong ids.old.list.items ids.new.list.items) }
     ensures frames { OnOk result ((e : ElementValue) (frame : Items ℕ)
         → Contains elements.now.items e → e.frame ≡ Some frame
         → is_among ids.new.list.items frame ≡ true) }
@@ -419,9 +311,7 @@ fn add_frames_of(ids: &mut Ids, elements: &Vec<SharedElement>) -> Result<(), All
 
 /// Adds the frame that an element names.
 fn add_frame(ids: &mut Ids, e: &Element) -> Result<(), AllocError>
-    requires { AreIds ids.old.list.items ids.old.seen }
-    ensures are { OnOk result (AreIds ids.new.list.items ids.new.seen) }
-    ensures ids { OnOk result ((id : Items ℕ)
+    ensures { OnOk result ((id : Items ℕ)
         → is_among ids.new.list.items id
         ≡ (is_id id e.now.frame || is_among ids.old.list.items id)) }
 {

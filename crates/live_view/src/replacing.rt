@@ -1,18 +1,15 @@
 //! Elements that take the places of those of their ids, with the same indices: what is near them is
 //! shown anew, and nothing else that is shown changes.
 
-ghost use Rattle.std.specs.Prelude.{◌≡◌, ℕ, List as Items, Some, Ok, true, false, map, filter, filter_map, length, All, OnErr, IfOk, IfSome, IsTrue, bytes_eq, option_copied};
-ghost use Rattle.std.specs.List.{list_all, IsDistinct};
+ghost use Rattle.std.specs.Prelude.{◌≡◌, Some, Ok, true, false, map, filter, filter_map, All, OnErr, IfOk, IfSome, IsTrue, option_copied};
+ghost use Rattle.std.specs.List.{list_all};
 ghost use Rattle.frac_keys.specs.Rising.{are_rising};
 ghost use Rattle.elem.specs.ElementValue.{ElementValue};
 ghost use Rattle.elem_store.specs.Updates as updates;
 ghost use Rattle.elem_store.specs.Updates.{ids_of, is_among};
 ghost use Rattle.view.specs.Settled.{settled};
-ghost use Rattle.elem.specs.Order.{HaveDistinctIds};
 ghost use Rattle.view.specs.Shown.{in_scene_order, is_live, without_index};
 ghost use Rattle.live_view.specs.inner.Putting.{puts_of, IsInPlace};
-ghost use Rattle.live_view.specs.inner.Reached.{AreIds};
-ghost use Rattle.view.specs.Kept.{HaveRowsOf};
 ghost use Rattle.live_view.specs.inner.Replacing as replacing;
 ghost use Rattle.live_view.specs.inner.Replacing.{AreRepairs, AreRowsOfAll, HaveReplaced};
 
@@ -21,14 +18,14 @@ use crate::ids::Ids;
 use crate::kept::Kept;
 use crate::order;
 use crate::places::{Put, element_of, place_of, place_shown, put_all, shared_of};
-use crate::reach::{add_namers, is_much, reached, started_by, surrounded};
+use crate::reach::{Board, add_namers, is_much, reached, started_by, surrounded};
 use crate::sharing::shared_as;
 use crate::unsettled::{add_ids, ids_put, note_all, settle_all};
 use board_base::List;
 use elem::{Element, SharedElement};
 use frac_keys::Key;
 use json_text::Text;
-use links::{LinkRow, LinkTable, rows_of};
+use links::{LinkRow, rows_of};
 use std::alloc::{AllocError, Global};
 
 impl Kept {
@@ -45,7 +42,11 @@ impl Kept {
         let Some(held) = held_puts(alloc, &self.live, news)? else {
             return Ok(false);
         };
-        let Some(shown) = shown_puts(alloc, &self.live, &self.shown, &self.table, news)? else {
+        let board = Board {
+            live: &self.live,
+            table: &self.table,
+        };
+        let Some(shown) = shown_puts(alloc, board, &self.shown, news)? else {
             return Ok(false);
         };
         let old_rows = rows_of_all(alloc, &held_of(alloc, &self.live, news)?)?;
@@ -133,27 +134,24 @@ pub(crate) fn rows_of_all(
 /// it is shown, if these are found and it isn't much.
 fn shown_puts(
     alloc: Global,
-    live: &Vec<SharedElement>,
+    board: Board<'_>,
     shown: &Vec<SharedElement>,
-    table: &LinkTable,
     news: &Vec<SharedElement>,
 ) -> Result<Option<Vec<Put>>, AllocError>
-    requires live { are_rising (ids_of live.now.items) ≡ true }
-    requires news { are_rising (ids_of news.now.items) ≡ true }
-    requires table { HaveRowsOf live.now.items table.now.rows }
+    requires { are_rising (ids_of news.now.items) ≡ true }
     ensures { IfOk result
         (λ found. IfSome found
-        (λ puts. AreRepairs live.now.items shown.now.items news.now.items puts.items)) }
+        (λ puts. AreRepairs board.entry.live.now.items shown.now.items news.now.items puts.items)) }
 {
     let mut start = started_by(alloc, news)?;
-    add_namers(&mut start, news, live, table)?;
-    let near = reached(alloc, &start, live, table)?;
-    if is_much(&near, live) {
+    add_namers(&mut start, news, board)?;
+    let near = reached(alloc, &start, board)?;
+    if is_much(&near, board) {
         return Ok(None);
     }
-    let wide = surrounded(alloc, &near, news, live, table)?;
-    let part = settled_after(alloc, live, news, &wide.list)?;
-    puts_near(alloc, live, shown, part, &near)
+    let wide = surrounded(alloc, &near, news, board)?;
+    let part = settled_after(alloc, board.live, news, &wide)?;
+    puts_near(alloc, board.live, shown, part, &near)
 }
 
 /// The elements of these ids after the new ones took their places, in scene order, settled.
@@ -161,17 +159,16 @@ pub(crate) fn settled_after(
     alloc: Global,
     live: &Vec<SharedElement>,
     news: &Vec<SharedElement>,
-    ids: &Vec<Text>,
+    ids: &Ids,
 ) -> Result<List<Element>, AllocError>
     requires live { are_rising (ids_of live.now.items) ≡ true }
     requires news { are_rising (ids_of news.now.items) ≡ true }
-    requires distinct { IsDistinct bytes_eq ids.now.items }
     ensures { IfOk result
         (λ part. part ≡ settled
         (in_scene_order
-        (filter_map (replacing.element_after live.now.items news.now.items) ids.now.items))) }
+        (filter_map (replacing.element_after live.now.items news.now.items) ids.now.list.items))) }
 {
-    let mut elements = elements_after(alloc, live, news, ids)?;
+    let mut elements = elements_after(alloc, live, news, &ids.list)?;
     order::sort(&mut elements)?;
     settled_of(alloc, List::from_vec(elements))
 }
@@ -223,7 +220,6 @@ pub(crate) fn puts_near(
     elements: List<Element>,
     near: &Ids,
 ) -> Result<Option<Vec<Put>>, AllocError>
-    requires { AreIds near.now.list.items near.now.seen }
     ensures { IfOk result (λ found. IfSome found (λ puts. All (IsInPlace shown.now.items) puts.items
         × (map without_index (puts_of puts.items) ≡ map without_index
         (filter (λ (e : ElementValue). is_among near.now.list.items e.id) elements)))) }

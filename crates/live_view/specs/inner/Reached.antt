@@ -1,6 +1,5 @@
 -- Ids that are reached over links. This project's own.
 use Rattle.std.specs.Prelude.{◌≡◌, ◌⊎◌, ℕ, List, Bool, true, false, ◌||◌, Some, bytes_eq, Contains, All}
-use Rattle.std.specs.BTreeSet.{BTreeSet}
 use Rattle.std.specs.List.{IsDistinct}
 use Rattle.std.specs.Option.{option_map_or}
 use Rattle.elem.specs.ElementValue.{ElementValue}
@@ -8,23 +7,21 @@ use Rattle.elem_store.specs.Updates.{element_of, is_among}
 use Rattle.links.specs.Looks.{kind_at}
 use Rattle.links.specs.Names.{is_text}
 use Rattle.links.specs.Steps.{links_to, names_id}
-use Rattle.links.specs.Tables.{has_seen}
 
--- A list of ids, each once, and the set of them.
-pub record AreIds (ids : List (List ℕ)) (seen : BTreeSet (List ℕ)) : Type 0 where
-  pub same : (id : List ℕ) → has_seen seen id ≡ is_among ids id
-  pub distinct : IsDistinct bytes_eq ids
+-- the ids of one list are among others
+abbrev pub AreAmong : List (List ℕ) → List (List ℕ) → Type 0
+AreAmong from to = (id : List ℕ) → is_among from id ≡ true → is_among to id ≡ true
 
 -- The ids of one list are among others, as is what the elements of some ids link to.
 pub record HaveLinked (elements : List ElementValue) (over from to : List (List ℕ)) : Type 0 where
-  pub kept : (id : List ℕ) → is_among from id ≡ true → is_among to id ≡ true
+  pub kept : AreAmong from to
   pub linked : (e : ElementValue) (id : List ℕ) → Contains elements e → is_among over e.id ≡ true
       → links_to id e ≡ true → is_among to id ≡ true
 
 -- The ids of one list are among others, as is what links to some ids and passes a test there.
 pub record HaveNamers (passes : List ℕ → ElementValue → Bool) (elements : List ElementValue)
     (over from to : List (List ℕ)) : Type 0 where
-  pub kept : (id : List ℕ) → is_among from id ≡ true → is_among to id ≡ true
+  pub kept : AreAmong from to
   pub naming : (e : ElementValue) (id : List ℕ) → Contains elements e → is_among over id ≡ true
       → links_to id e ≡ true → passes id e ≡ true → is_among to e.id ≡ true
 

@@ -1,4 +1,4 @@
-use Rattle.std.proofs.Common.{◌≡◌, ℕ, suc, ◌+◌, None, Some, length, get_or, take, sym, ap, ◌∙◌, subst, arith}
+use Rattle.std.proofs.Common.{◌≡◌, suc, ◌+◌, None, Some, length, get_or, take, sym, ap, ◌∙◌, subst, arith}
 use Rattle.elem_store.specs.Updates.{element_of}
 use Rattle.live_view.proofs.FoundLaws.{found-at, none-yet}
 use Rattle.live_view.proofs.coming.element_in.Goals as goal

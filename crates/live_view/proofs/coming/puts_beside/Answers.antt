@@ -8,7 +8,7 @@ returns c =
     (λ found is. IfSome-weaker _ _
     (λ puts drawn. record {
       others = c.in_ok-others.others.list.items;
-      are = c.in_ok-others.ensures.others;
+      are = c.in_ok-others.ensures;
       placed =
           drawn.0;
       drawn_others = drawn.1;

@@ -1,6 +1,5 @@
-use Rattle.std.proofs.Common.{◌≡◌, false, Option, None, Some, is_some, refl, sym, ◌∙◌}
+use Rattle.std.proofs.Common.{sym, ◌∙◌}
 use Rattle.std.proofs.lemmas.Result.{on_ok_weaker}
-use Rattle.elem.specs.ElementValue.{ElementValue}
 use Rattle.json_text.proofs.CallerLemmas.{none-is}
 use Rattle.live_view.proofs.FollowingLaws.{begun}
 use Rattle.live_view.proofs.following.begin_with.Goals as goal

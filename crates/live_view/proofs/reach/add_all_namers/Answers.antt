@@ -12,6 +12,6 @@ returns-clause-namers c =
     are m.id
     ∙ or_left (is_among c.namers.result.now m.id) (is_among c.args.ids.now.list.items m.id)
     (ap (λ ids. is_among ids m.id) c.namers.ensures.exact
-    ∙ namers-among c.args.live.now.items c.args.table.now.rows c.args.id.now c.requires.ordered c.requires.table m
-    there names))
-    c.add_all.ensures.ids
+    ∙ namers-among c.args.board.live.now.items c.args.board.table.now.rows c.args.id.now c.args.board.ordered
+    c.args.board.rows m there names))
+    c.add_all.ensures

@@ -9,9 +9,8 @@ use Rattle.live_view.proofs.reach.add_frames_of.Goals as goal
 pub loop-e-preserved : goal.loop-e-preserved
 loop-e-preserved c =
     let frame = c.e-item.result.frame in
-    let added = rw c.get.ensures at c.in_ok-add_frame.ensures.ids in
+    let added = rw c.get.ensures at c.in_ok-add_frame.ensures in
     record {
-      are = c.in_ok-add_frame.ensures.are;
       kept =
           λ x h. added x ∙ or_right (is_id x frame) (is_among c.loop-e.ids.list.items x) (c.loop-e.invariant.kept x h);
       frames = frames_of-more c.args.elements.now.items c.loop-e.e-index c.e-item.result c.loop-e.ids.list.items

@@ -5,15 +5,13 @@ use Rattle.live_view.proofs.Stepping.{started-more}
 use Rattle.live_view.proofs.reach.started_by.Goals as goal
 
 pub loop-e-preserved : goal.loop-e-preserved
-loop-e-preserved c = record {
-  are = c.in_ok-add_linked.ensures.are;
-  started = started-more c.args.elements.now c.loop-e.e-index c.e-item.result c.loop-e.ids.list.items
-      c.add.new.self.list.items c.add_linked.new.ids.list.items
-      (omega arith) c.e-item.is c.loop-e.invariant.started (λ x. c.in_ok-add.ensures.ids x
-      ∙ ap (λ y. bytes_eq x y || is_among c.loop-e.ids.list.items x) c.id.ensures)
-      (rw c.get.ensures at c.in_ok-add_linked.ensures.ids);
-}
+loop-e-preserved c =
+    started-more c.args.elements.now c.loop-e.e-index c.e-item.result c.loop-e.ids.list.items
+    c.add.new.self.list.items c.add_linked.new.ids.list.items
+    (omega arith) c.e-item.is c.loop-e.invariant (λ x. c.in_ok-add.ensures x
+    ∙ ap (λ y. bytes_eq x y || is_among c.loop-e.ids.list.items x) c.id.ensures)
+    (rw c.get.ensures at c.in_ok-add_linked.ensures)
 
-pub returns-clause-started : goal.returns-clause-started
-returns-clause-started c = subst (AreStartedBy c.loop-e.ids.list.items)
-    (take_all c.loop-e.e-index c.args.elements.now (omega arith)) c.loop-e.invariant.started
+pub returns : goal.returns
+returns c = subst (AreStartedBy c.loop-e.ids.list.items)
+    (take_all c.loop-e.e-index c.args.elements.now (omega arith)) c.loop-e.invariant

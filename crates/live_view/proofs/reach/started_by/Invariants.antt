@@ -1,9 +1,6 @@
 use Rattle.std.proofs.Common.{take}
-use Rattle.live_view.specs.inner.Reached.{AreIds, AreStartedBy}
+use Rattle.live_view.specs.inner.Reached.{AreStartedBy}
 use Rattle.live_view.proofs.reach.started_by.Given as goal
 
 abbrev pub invariant-loop-e : goal.invariant-loop-e
-invariant-loop-e l = record {
-  are : AreIds l.ids.list.items l.ids.seen;
-  started : AreStartedBy l.ids.list.items (take l.e-index l.elements);
-}
+invariant-loop-e l = AreStartedBy l.ids.list.items (take l.e-index l.elements)

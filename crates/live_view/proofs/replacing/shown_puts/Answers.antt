@@ -17,10 +17,10 @@ returns c =
       wide = c.in_ok-wide.wide.list.items;
       started = started-kept c.args.news.now.items c.in_ok-start.start.list.items c.add_namers.new.ids.list.items
           c.in_ok-add_namers.ensures.kept
-          (rw c.deref.ensures.value at c.in_ok-start.ensures.started);
+          (rw c.deref.ensures.value at c.in_ok-start.ensures);
       kinds_started = c.in_ok-add_namers.ensures.namers;
-      reached = c.in_ok-near.ensures.reached;
-      surrounded = c.in_ok-wide.ensures.surrounded;
+      reached = c.in_ok-near.ensures;
+      surrounded = c.in_ok-wide.ensures;
       placed = drawn.0;
       drawn = drawn.1
           ∙ ap (λ es. map without_index (filter (λ (e : ElementValue). is_among c.in_ok-near.near.list.items e.id) es))

@@ -1,4 +1,4 @@
-use Rattle.std.proofs.Common.{◌≡◌, ◌≤◌}
+use Rattle.std.proofs.Common.{◌≡◌}
 use Rattle.live_view.specs.inner.Runs.{part_of, stored_keys}
 use Rattle.live_view.proofs.runs.keys_between.Given as goal
 

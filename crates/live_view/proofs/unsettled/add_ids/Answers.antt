@@ -1,4 +1,4 @@
-use Rattle.std.proofs.Common.{◌≡◌, ◌<◌, ℕ, List, [], ◌∷◌, ◌++◌, get_or, length, ap, ◌∙◌, arith}
+use Rattle.std.proofs.Common.{◌<◌, ℕ, List, [], ◌∷◌, ◌++◌, length, ap, ◌∙◌, arith}
 use Rattle.elem.specs.ElementValue.{ElementValue}
 use Rattle.live_view.proofs.UnsettledLaws.{push-part}
 use Rattle.live_view.proofs.unsettled.add_ids.Goals as goal

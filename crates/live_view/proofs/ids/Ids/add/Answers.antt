@@ -1,15 +1,21 @@
-use Rattle.std.proofs.Common.{not, true, false, Bool, ◌≡◌, refl, sym, ◌∙◌}
+use Rattle.std.proofs.Common.{sym, ◌∙◌}
+use Rattle.std.specs.Cmp.Lexicographic.{nat_list_eq_equiv}
+use Rattle.std.proofs.lemmas.Map.Keys.{IsDistinct-push}
 use Rattle.links.specs.Tables.{has_seen}
-use Rattle.live_view.proofs.IdLaws.{AreIds-push}
+use Rattle.links.proofs.CallerLemmas.{seen-more}
+use Rattle.live_view.proofs.IdLaws.{among-stays, same-push}
 use Rattle.live_view.proofs.ids.Ids.add.Goals as goal
 
-first : (b : Bool) → not b ≡ true → b ≡ false
-first true h = cc
-first false h = refl
+pub returns-then-has : goal.returns-then-has
+returns-then-has c = among-stays c.args.self.now.list.items c.args.id.now (sym c.has.ensures ∙ c.if-has.true)
 
-pub returns-in_ok-push-clause-are : goal.returns-in_ok-push-clause-are
-returns-in_ok-push-clause-are c =
-    rw (c.in_ok-push.ensures.items, c.in_ok-try_clone.ensures)
-    (AreIds-push c.args.self.now.list.items c.args.self.now.seen c.see.new.seen c.args.id.now c.requires
-    c.in_ok-see.ensures.seen
-    (first (has_seen c.args.self.now.seen c.args.id.now) (sym c.in_ok-see.ensures.first ∙ c.if-branch.true)))
+pub invariant_of-self-2 : goal.invariant_of-self-2
+invariant_of-self-2 c =
+    let old = c.args.self.now in
+    let id = c.args.id.now in
+    rw (c.push_reserved.ensures.items, c.in_ok-reserve.ensures.items, c.in_ok-listed.ensures) (record {
+      same = same-push old.list.items old.seen c.insert.new.self id old.same (λ other.
+          rw c.in_ok-try_clone.ensures at c.in_ok-insert.ensures.updates.0 other
+          ∙ seen-more id other (has_seen old.seen other));
+      distinct = IsDistinct-push nat_list_eq_equiv old.list.items id old.distinct (sym c.has.ensures ∙ c.if-has.false);
+    })

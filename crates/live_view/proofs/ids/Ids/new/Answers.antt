@@ -2,6 +2,6 @@ use Rattle.std.proofs.Common.{refl}
 use Rattle.std.specs.List.{IsDistinct}
 use Rattle.live_view.proofs.ids.Ids.new.Goals as goal
 
-pub returns-clause-are : goal.returns-clause-are
+pub invariant_of-result : goal.invariant_of-result
 unfolding IsDistinct
-returns-clause-are c = rw (c.new.ensures.items, c.new-2.ensures.empty) (record { same = λ id. refl; distinct = tt })
+invariant_of-result c = rw (c.new.ensures.items, c.new-2.ensures.empty) (record { same = λ id. refl; distinct = tt })

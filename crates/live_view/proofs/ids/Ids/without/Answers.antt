@@ -11,9 +11,6 @@ on-from : (b : Bool) → false ≡ not b → b ≡ true
 on-from true is = refl
 on-from false is = cc
 
-pub add-requires : goal.add-requires
-add-requires c = c.loop-other.invariant.are
-
 pub loop-other-preserved : goal.loop-other-preserved
 loop-other-preserved c =
     let ids = c.args.self.now.list.items in
@@ -25,17 +22,12 @@ loop-other-preserved c =
     elim c.if-ne.branch [
       | then-ne+in_ok-add w ↦
           let off : bytes_eq c.args.id.now c.other-item.result ≡ false = off-from _ w.if-ne.ensures in
-          rw w.ids-is (record {
-            are = w.in_ok-add.ensures.are;
-            each = others-add c.args.id.now ids c.loop-other.other-index c.other-item.result within there
-                c.loop-other.ids.list.items c.loop-other.invariant.each off w.add.new.self.list.items
-                w.in_ok-add.ensures.ids;
-          })
+          rw w.ids-is
+          (others-add c.args.id.now ids c.loop-other.other-index c.other-item.result within there
+          c.loop-other.ids.list.items c.loop-other.invariant off w.add.new.self.list.items w.in_ok-add.ensures)
       | else-ne w ↦
           let own : bytes_eq c.args.id.now c.other-item.result ≡ true = on-from _ w.if-ne.ensures in
-          rw w.ids-is (record {
-            are = c.loop-other.invariant.are;
-            each = others-skip c.args.id.now ids c.loop-other.other-index c.other-item.result within there
-                c.loop-other.ids.list.items c.loop-other.invariant.each own;
-          })
+          rw w.ids-is
+          (others-skip c.args.id.now ids c.loop-other.other-index c.other-item.result within there
+          c.loop-other.ids.list.items c.loop-other.invariant own)
     ]

@@ -1,4 +1,4 @@
-use Rattle.std.proofs.Common.{◌≡◌, Ok, Some, refl, ap, sym, ◌∙◌, subst₂}
+use Rattle.std.proofs.Common.{◌≡◌, Some, refl, sym, ◌∙◌, subst₂}
 use Rattle.live_view.specs.inner.Following.{HaveFollowed}
 use Rattle.live_view.proofs.FollowingLaws.{twin-followed}
 use Rattle.live_view.proofs.live.LiveView.follow_each.Goals as goal
