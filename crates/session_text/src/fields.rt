@@ -3,7 +3,7 @@
 ghost use Rattle.std.specs.Prelude.{◌≡◌, ◌↔◌, Some, IfOk, IsTrue, MatchOption};
 ghost use Rattle.json_text.specs.Members.{pairs};
 ghost use Rattle.elem_read.specs.Faults.{Lacks};
-ghost use Rattle.elem.specs.Forms.{IsText, IsWholeNumber, IsObject};
+ghost use Rattle.elem.specs.Forms.{IsText, IsWholeNumber};
 ghost use Rattle.session_text.specs.Forms.{IsFrom, IsThere, IsArray, IsShallow, AreIds, IsCapture, IsSide, IsSpot, IsRest};
 ghost use Rattle.session_text.specs.Reads.{MemberOf};
 ghost use Rattle.session_text.specs.inner.Reads.{IsReadResult};
@@ -13,11 +13,10 @@ use crate::fault::TextFault;
 use crate::name::MemberName;
 use board_base::{List, Stop};
 use board_commands::{Capture, Side, Spot};
-use elem_read::further_members;
+use elem_read::{further_members, object_members};
 use json_text::{Member, Raw, Text, first_occurrences};
 use scene_json::{
-    has_value, items, members, nests_at_most, shaped, text_named, texts_of, value_named,
-    whole_named,
+    has_value, items, nests_at_most, shaped, text_named, texts_of, value_named, whole_named,
 };
 use std::alloc::{AllocError, Global};
 
@@ -91,14 +90,6 @@ pub(crate) fn array(
     }
 }
 
-/// The members of the object that the value is, if it is one.
-pub(crate) fn object(alloc: Global, value: &Raw) -> Result<Option<List<Member>>, AllocError>
-    ensures { IfOk result (λ found. MatchOption found
-        (Lacks (IsObject value.now)) (λ members. IsObject value.now (pairs members))) }
-{
-    shaped(members(alloc, value))
-}
-
 /// The ids, each once.
 pub(crate) fn ids(alloc: Global, members: &List<Member>) -> Result<List<Text>, Stop<TextFault>>
     ensures { IsReadResult (MemberOf names.Ids AreIds (pairs members.now)) result }
@@ -170,7 +161,7 @@ fn spot_in(alloc: Global, value: &Raw) -> Result<Option<Spot>, AllocError>
     if is(value, "\"bottom\"") {
         return Ok(Some(Spot::Bottom));
     }
-    let Some(found) = object(alloc, value)? else {
+    let Some(found) = object_members(alloc, value)? else {
         return Ok(None);
     };
     match text_named(alloc, &found, "after")? {
@@ -217,7 +208,7 @@ fn rest_in(alloc: Global, value: &Raw) -> Result<Option<List<Member>>, AllocErro
     if !nests_at_most(value, DEEPEST) {
         return Ok(None);
     }
-    match object(alloc, value)? {
+    match object_members(alloc, value)? {
         Some(found) => Ok(Some(further_members(found)?)),
         None => Ok(None),
     }

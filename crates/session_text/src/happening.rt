@@ -11,13 +11,13 @@ ghost use Rattle.session_text.specs.declared.name.MemberName.TheVariants as name
 use crate::command::command_of;
 use crate::event::Event;
 use crate::fault::TextFault;
-use crate::fields::{array, capture, number_from, object, text, whole};
+use crate::fields::{array, capture, number_from, text, whole};
 use crate::name::MemberName;
 use crate::picking::picks;
 use board_base::{List, Stop};
 use board_commands::Command;
 use elem::Element;
-use elem_read::read_elements;
+use elem_read::{object_members, read_elements};
 use json_text::{Member, Raw, Text};
 use scene_json::{has_value, value_named};
 use std::alloc::Global;
@@ -43,7 +43,7 @@ pub(crate) fn read_event(
 ) -> Result<Event, Stop<TextFault>>
     ensures { IsReadResult (EventText replicas made value.now) result }
 {
-    match object(alloc, value)? {
+    match object_members(alloc, value)? {
         Some(found) => event_of(alloc, &found, replicas, made),
         None => Err(Stop::Fault(TextFault::NotObject)),
     }
@@ -182,7 +182,7 @@ pub(crate) fn command_in(alloc: Global, from: &List<Member>) -> Result<Command, 
     let Some(value) = value_named(from, "command") else {
         return Err(Stop::Fault(TextFault::Member(MemberName::Command)));
     };
-    match object(alloc, value)? {
+    match object_members(alloc, value)? {
         Some(found) => command_of(alloc, &found),
         None => Err(Stop::Fault(TextFault::Member(MemberName::Command))),
     }

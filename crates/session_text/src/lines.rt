@@ -12,13 +12,14 @@ ghost use Rattle.session_text.specs.declared.lines.LineName.TheVariants as lines
 ghost use Rattle.session_text.specs.declared.name.MemberName.TheVariants as names;
 
 use crate::fault::TextFault;
-use crate::fields::{capture, number_from, object, text, whole};
+use crate::fields::{capture, number_from, text, whole};
 use crate::happening::{command_in, elements_in};
 use crate::header::{MOST_REPLICAS, scene};
 use crate::name::MemberName;
 use board_base::{List, Stop};
 use board_commands::{Capture, Command};
 use elem::Element;
+use elem_read::object_members;
 use json_text::{Member, Raw, Text};
 use scene_file::Scene;
 use scene_json::has_value;
@@ -166,7 +167,7 @@ pub fn read_line(alloc: Global, value: &Raw) -> Result<Line, Stop<TextFault>>
 fn opening_in(alloc: Global, value: &Raw) -> Result<Opening, Stop<TextFault>>
     ensures { IsReadResult (OpeningText value.now) result }
 {
-    match object(alloc, value)? {
+    match object_members(alloc, value)? {
         Some(found) => opening_of(alloc, &found),
         None => Err(Stop::Fault(TextFault::NotObject)),
     }
@@ -191,7 +192,7 @@ fn opening_of(alloc: Global, members: &List<Member>) -> Result<Opening, Stop<Tex
 fn line_in(alloc: Global, value: &Raw) -> Result<Line, Stop<TextFault>>
     ensures { IsReadResult (LineText value.now) result }
 {
-    match object(alloc, value)? {
+    match object_members(alloc, value)? {
         Some(found) => line_of(alloc, &found),
         None => Err(Stop::Fault(TextFault::NotObject)),
     }
