@@ -1,5 +1,7 @@
 -- What is read, or the first fault, of one reading after the other.
 use Rattle.std.proofs.Common.{◌≡◌, inl, inr, Result, Ok, Err, IfOk, refl, sym, ap, subst, ◌∙◌}
+use Rattle.std.specs.Result.{IsErrAnd}
+use Rattle.std.proofs.lemmas.Result.{err_from_is_err_and}
 use Rattle.board_base.specs.declared.stop.Stop.{Stop}
 use Rattle.board_base.specs.declared.stop.Stop.TheVariants.{Fault, Memory}
 use Rattle.elem_read.proofs.CallerLemmas.{Decided}
@@ -104,10 +106,13 @@ went_on {A = A} {B = B} {First = First} {Next = Next} {x = x} {result = result} 
     by (Err (Fault fault)) reads = goes_on x is.read reads
     by (Err Memory) reads = tt
 
+-- at the exit of a `?`
 pub stopped : {A B : Type 0} {First : Result A TextFault → Type 0} {Next : A → Result B TextFault
-    → Type 0} {stop : Stop TextFault}
-    → IsReadResult First (Err stop) → IsReadResult (Then First Next) (Err stop)
-stopped {A = A} {B = B} {First = First} {Next = Next} {stop = stop} is = record { read = by stop is.read }
+    → Type 0} {stop : Stop TextFault} {result : Result B (Stop TextFault)}
+    → IsReadResult First (Err stop) → IsErrAnd result (λ e. e ≡ stop) → IsReadResult (Then First Next) result
+stopped {A = A} {B = B} {First = First} {Next = Next} {stop = stop} {result = result} is exit =
+    let (other, ended, same) = err_from_is_err_and result exit in
+    rw (ended, same) (record { read = by stop is.read })
   where
     by : (s : Stop TextFault) → Answers {A = A} First (Err s) → Answers {A = B} (Then First Next) (Err s)
     by (Fault fault) reads = ends fault reads refl

@@ -1,12 +1,14 @@
 //! The members of a session's texts, each of one form.
 
 ghost use Rattle.std.specs.Prelude.{◌≡◌, ◌↔◌, Some, IfOk, IsTrue, MatchOption};
+ghost use Rattle.std.specs.Result.{result_map_both};
 ghost use Rattle.json_text.specs.Members.{pairs};
 ghost use Rattle.elem_read.specs.Faults.{Lacks};
-ghost use Rattle.elem.specs.Forms.{IsText, IsWholeNumber};
-ghost use Rattle.session_text.specs.Forms.{IsFrom, IsThere, IsArray, IsShallow, AreIds, IsCapture, IsSide, IsSpot, IsRest};
-ghost use Rattle.session_text.specs.Reads.{MemberOf};
+ghost use Rattle.elem.specs.Forms.{IsText, IsWholeNumber, IsObject};
+ghost use Rattle.session_text.specs.Forms.{IsFrom, IsThere, IsArray, HasObject, IsShallow, AreIds, IsCapture, IsSide, IsSpot, IsRest};
+ghost use Rattle.session_text.specs.Reads.{Or, MemberOf};
 ghost use Rattle.session_text.specs.inner.Reads.{IsReadResult};
+ghost use Rattle.session_text.specs.declared.fault.TextFault.TheVariants as faults;
 ghost use Rattle.session_text.specs.declared.name.MemberName.TheVariants as names;
 
 use crate::fault::TextFault;
@@ -87,6 +89,35 @@ pub(crate) fn array(
     match shaped(items(alloc, value))? {
         Some(items) => Ok(items),
         None => Err(Stop::Fault(TextFault::Member(name))),
+    }
+}
+
+/// The members of the member of this name, an object.
+pub(crate) fn object(
+    alloc: Global,
+    members: &List<Member>,
+    name: MemberName,
+) -> Result<List<Member>, Stop<TextFault>>
+    ensures { IsReadResult (MemberOf name HasObject (pairs members.now))
+        (result_map_both pairs (λ stop. stop) result) }
+{
+    let Some(value) = value_named(members, name.word()) else {
+        return Err(Stop::Fault(TextFault::Member(name)));
+    };
+    match object_members(alloc, value)? {
+        Some(members) => Ok(members),
+        None => Err(Stop::Fault(TextFault::Member(name))),
+    }
+}
+
+/// The members of the text, an object.
+pub(crate) fn text_members(alloc: Global, text: &Raw) -> Result<List<Member>, Stop<TextFault>>
+    ensures { IsReadResult (Or (IsObject text.now) faults.NotObject)
+        (result_map_both pairs (λ stop. stop) result) }
+{
+    match object_members(alloc, text)? {
+        Some(members) => Ok(members),
+        None => Err(Stop::Fault(TextFault::NotObject)),
     }
 }
 
