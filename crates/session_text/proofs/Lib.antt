@@ -2,7 +2,6 @@ pub mod Behind
 pub mod Brought
 pub mod FormsOne
 pub mod Kept
-pub mod Lacking
 pub mod LinesOne
 pub mod PicksMore
 pub mod Readings
