@@ -22,9 +22,9 @@ use crate::placed::Placed;
 use crate::repeats::first_repeat;
 use board_base::{List, Stop};
 use elem::Element;
-use elem_read::{FaultyElement, read_element};
+use elem_read::{FaultyElement, object_members, read_element};
 use json_text::Raw;
-use scene_json::{has_value, members, shaped};
+use scene_json::has_value;
 use std::alloc::{AllocError, Global};
 
 /// The clip that a value is, or its first fault.
@@ -38,7 +38,7 @@ pub fn read_clip(alloc: Global, value: &Raw) -> Result<Clip, Stop<ClipFault>>
         (pairs clip.files)) }
     ensures places { IfOk result (λ clip. length clip.places ≡ length clip.elements) }
 {
-    let Some(found) = shaped(members(alloc, value))? else {
+    let Some(found) = object_members(alloc, value)? else {
         return Err(Stop::Fault(ClipFault::NotObject));
     };
     if !has_value(&found, "type", "\"excalidraw/clipboard\"") {

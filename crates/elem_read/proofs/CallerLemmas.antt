@@ -2,7 +2,8 @@
 pub use Rattle.elem_read.proofs.Decided.{Decided, Fits, fits-in, id-or-not, not-named, null-or-not, others-exist}
 pub use Rattle.elem_read.proofs.Decided.{pairs-unpaired, text-or-not, text_or_null-or-not, texts-or-not, unpaired}
 pub use Rattle.elem_read.proofs.Decided.{whole-or-not}
-pub use Rattle.elem_read.proofs.Keeping.{AllFound, found-has, found-self, object-nests, says-element, says-written}
+pub use Rattle.elem_read.proofs.Keeping.{AllFound, found-has, found-self, object-nests, others-hold}
+pub use Rattle.elem_read.proofs.Keeping.{says-element, says-written}
 pub use Rattle.elem_read.proofs.NoSelections.{is-object}
 pub use Rattle.elem_read.proofs.Others.{kept, kept-others, sorted-others}
 pub use Rattle.elem_read.proofs.Parts.{stop-same, stopped}

@@ -69,7 +69,7 @@ others-each P test find all (m ∷ ms) holds same free found =
       others-each P test find all ms holds same parts.1 found.1,
     )
 
-others-hold : (P : List ℕ → List ℕ → Type 0) (test : List ℕ → Bool) (find : Find) (others : List Member)
+pub others-hold : (P : List ℕ → List ℕ → Type 0) (test : List ℕ → Bool) (find : Find) (others : List Member)
     → AllFound P find → AreOthers test find others → AllByRecursion (λ (m : Member). P m.name m.value) others
 others-hold P test find others holds are =
     others-each P test find others others holds are.same are.free

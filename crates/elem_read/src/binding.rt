@@ -13,10 +13,11 @@ ghost use Rattle.elem_read.specs.inner.Parts.{Reads};
 ghost use Rattle.elem_read.specs.declared.fault.ElemFault.TheVariants as faults;
 
 use crate::fault::ElemFault;
+use crate::object::object_members;
 use board_base::{List, Stop};
 use elem::Binding;
 use json_text::Member;
-use scene_json::{is_null, members, shaped, text_named, value_named};
+use scene_json::{is_null, text_named, value_named};
 use std::alloc::{AllocError, Global};
 
 /// The member in which a binding names its target.
@@ -53,7 +54,7 @@ fn binding_or_null(
     if is_null(value) {
         return Ok(None);
     }
-    let Some(members) = shaped(members(alloc, value))? else {
+    let Some(members) = object_members(alloc, value)? else {
         return Err(Stop::Fault(ElemFault::Binding));
     };
     let Some(target) = text_named(alloc, &members, TARGET)? else {

@@ -13,11 +13,12 @@ ghost use Rattle.elem_read.specs.declared.fault.FaultyElement.{FaultyElement};
 
 use crate::element::element_of;
 use crate::fault::{ElemFault, FaultyElement};
+use crate::object::object_members;
 use board_base::{List, Stop};
 use elem::Element;
 use json_text::{Member, Raw};
 use restore_table::into_restored;
-use scene_json::{Item, Objects, has_value, members, nests_at_most, shaped};
+use scene_json::{Item, Objects, has_value, nests_at_most};
 use std::alloc::Global;
 
 /// How many brackets may be open at once in an element, its own counted.
@@ -33,7 +34,7 @@ pub fn read_element(alloc: Global, value: &Raw) -> Result<Option<Element>, Stop<
         → IsFaultIn value.now fault }
     ensures whole { IfOk result (λ found. IfSome found IsWholeElement) }
 {
-    match shaped(members(alloc, value))? {
+    match object_members(alloc, value)? {
         Some(given) => read_members(alloc, given),
         None => Err(Stop::Fault(ElemFault::NotObject)),
     }

@@ -14,9 +14,9 @@ use crate::item::Item;
 use board_base::{List, Stop};
 use clips::{Placed, first_repeat, read_placed};
 use elem::Element;
-use elem_read::FaultyElement;
+use elem_read::{FaultyElement, object_members};
 use json_text::{Member, Raw};
-use scene_json::{has_value, members, shaped};
+use scene_json::has_value;
 use std::alloc::{AllocError, Global};
 
 /// The items of the library that a value is, in the array's order, or its first fault.
@@ -26,7 +26,7 @@ pub fn read_library(alloc: Global, value: &Raw) -> Result<List<Item>, Stop<LibFa
         → IsLibFault value.now fault }
     ensures whole { IfOk result (All IsWholeItem) }
 {
-    let Some(found) = shaped(members(alloc, value))? else {
+    let Some(found) = object_members(alloc, value)? else {
         return Err(Stop::Fault(LibFault::NotObject));
     };
     if !has_value(&found, "type", "\"excalidrawlib\"") {
@@ -72,7 +72,7 @@ fn read_item(alloc: Global, value: &Raw) -> Result<Item, Stop<ItemFault>>
     ensures fault { (fault : ItemFault) → result ≡ Err (Stop.Fault fault)
         → IsItemFault value.now fault }
 {
-    let Some(found) = shaped(members(alloc, value))? else {
+    let Some(found) = object_members(alloc, value)? else {
         return Err(Stop::Fault(ItemFault::NotObject));
     };
     read_members(alloc, &found)

@@ -5,14 +5,22 @@ use Rattle.json_text.specs.Characters.{quote}
 use Rattle.json_text.specs.Compact.{Member as Pair}
 use Rattle.json_text.proofs.CallerLemmas.{ascii-utf8}
 use Rattle.scene_json.specs.Named.{value_at}
+use Rattle.elem.specs.ElementValue.{ElementValue}
 use Rattle.elem.specs.Forms.{IsObject}
-use Rattle.room_msg.specs.Messages.{init_tag, update_tag, HasTag, IsPresence, IsPayloadFault, IsMessageFault, StandsAlone, IsReadAs}
+use Rattle.elem_read.specs.Elements.{AreRead}
+use Rattle.room_msg.specs.Messages.{init_tag, update_tag, HasTag, HasPayload, HasElements, IsPresence, IsPayloadFault, IsMessageFault, StandsAlone, IsReadAs}
 use Rattle.room_msg.specs.declared.fault.MsgFault.{MsgFault}
 use Rattle.room_msg.specs.declared.fault.MsgFault.TheVariants.{Json, NotObject, Tag, Payload, Element}
 
 pub has-tag : (members : List Pair) (tag : List ℕ) → list_all (λ b. nat_lt b 128) tag ≡ true
     → value_at (codes "type") members ≡ Some (quote tag) → HasTag members tag
 has-tag members tag ascii found = (ascii-utf8 tag ascii, found)
+
+pub has-elements : (text tag : List ℕ) (members : List Pair) (elements : List ElementValue) → IsObject text members
+    → HasTag members tag
+    → ((values : List (List ℕ)) × HasPayload members values × AreRead values elements) → HasElements text tag elements
+has-elements text tag members elements object has (values, payload, read) =
+    record { members = members; object = object; tagged = has; values = values; payload = payload; read = read }
 
 pub presence : (text : List ℕ) (members : List Pair) (tag : List ℕ) → IsObject text members → HasTag members tag
     → (value_at (codes "type") members ≡ Some (quote init_tag) → ⊥)

@@ -11,7 +11,7 @@ use crate::fault::MsgFault;
 use crate::message::Message;
 use board_base::{List, Stop};
 use elem::Element;
-use elem_read::read_elements;
+use elem_read::{object_members, read_elements};
 use json_reader::{JsonFault, scan};
 use json_text::{Member, Raw, skip_space};
 use scene_json::{has_value, items, members, shaped, text_named, value_named};
@@ -53,7 +53,7 @@ fn message_of(alloc: Global, value: Raw) -> Result<Message, Stop<MsgFault>>
         → IsMessageFault value fault }
     ensures whole { IfOk result IsWholeMessage }
 {
-    let Some(found) = shaped(members(alloc, &value))? else {
+    let Some(found) = object_members(alloc, &value)? else {
         return Err(Stop::Fault(MsgFault::NotObject));
     };
     if has_value(&found, "type", "\"SCENE_INIT\"") {

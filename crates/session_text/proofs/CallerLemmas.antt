@@ -1,9 +1,8 @@
 -- The lemmas that crates above cite; nothing else of this folder is cited there.
 pub use Rattle.session_text.proofs.Kept.{session-kept}
-pub use Rattle.session_text.proofs.LinesKept.{line-brings, line-within, opening-kept}
-pub use Rattle.session_text.proofs.LinesOne.{line-once, line-told, line_text-one, opening-once, opening-told}
-pub use Rattle.session_text.proofs.LinesOne.{opening_text-one}
-pub use Rattle.session_text.proofs.Readings.{IsOne, apart, given-same, refused-same}
+pub use Rattle.session_text.proofs.LinesOne.{line-brings, line-once, line-told, line-within, opening-kept, opening-once}
+pub use Rattle.session_text.proofs.LinesOne.{opening-told}
+pub use Rattle.session_text.proofs.Readings.{apart}
 pub use Rattle.session_text.proofs.Said.{bind-said, change-said, create-said, delete-said, deliver-said, frame-said}
 pub use Rattle.session_text.proofs.Said.{group-said, label-said, place-said, redo-said, set-said, undo-said}
 pub use Rattle.session_text.proofs.SessionsOne.{fault-apart-session, fault-once, made-more, session-once}

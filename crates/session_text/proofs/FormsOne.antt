@@ -15,20 +15,28 @@ use Rattle.elem.specs.Forms.{find_in, IsText, IsWholeNumber, IsObject, AreOthers
 use Rattle.elem.proofs.CallerLemmas.{text-once, whole-once, texts-once, members-once, others-once, array-once}
 use Rattle.elem_read.proofs.CallerLemmas.{Decided, Fits, fits-in, text-or-not, texts-or-not, whole-or-not, others-exist}
 use Rattle.board_commands.specs.declared.command.Spot.{Spot}
-use Rattle.board_commands.specs.declared.command.Spot.TheVariants as spots
-use Rattle.session_text.specs.Forms.{IsFrom, IsThere, IsArray, HasObject, IsShallow, AreIds, IsCapture, IsSide, IsSpotAfter, IsSpot, IsRest, IsPair, IsPick, ArePicks, HasPicks, capture_text, side_text}
+use Rattle.board_commands.specs.declared.command.Spot.TheVariants as placing
+use Rattle.session_text.specs.Forms.{IsFrom, IsThere, IsArray, HasObject, IsShallow, AreIds, IsCapture, IsSide, IsSpotAfter, IsSpot, IsRest, IsPair, IsPick, ArePicks, HasPicks, capture_text}
 use Rattle.board_commands.specs.declared.command.Capture.{Capture}
-use Rattle.board_commands.specs.declared.command.Capture.TheVariants as captures
+use Rattle.board_commands.specs.declared.command.Capture.TheVariants as capturing
 use Rattle.session_text.specs.declared.event.Pick.{Pick}
 use Rattle.session_text.specs.declared.event.Pick.TheVariants as chosen
-use Rattle.session_text.proofs.Words.{AreTold, word-once, word-or-not, all_captures, captures-told, all_sides, sides-told}
+use Rattle.session_text.proofs.Words.{AreTold, word-once, word-or-not, all_captures, captures-told, sides-told}
+
+-- Whatever is found has the form or has it not, and stands for one thing alone.
+pub record IsClear {A : Type 0} (IsForm : Option (List ℕ) → A → Type 0) : Type 0 where
+  pub decided : (found : Option (List ℕ)) → Fits found → Decided (IsForm found)
+  pub once : (found : Option (List ℕ)) (x y : A) → IsForm found x → IsForm found y → x ≡ y
 
 -- ---- numbers
-pub from-once : (least limit : ℕ) (found : Option (List ℕ)) (a b : ℕ) → IsFrom least limit found a
+pub wholes : IsClear IsWholeNumber
+wholes = record { decided = λ found fits. whole-or-not found; once = whole-once }
+
+from-once : (least limit : ℕ) (found : Option (List ℕ)) (a b : ℕ) → IsFrom least limit found a
     → IsFrom least limit found b → a ≡ b
 from-once least limit found a b one two = whole-once found a b one.0 two.0
 
-pub from-or-not : (least limit : ℕ) (found : Option (List ℕ)) → Decided (IsFrom least limit found)
+from-or-not : (least limit : ℕ) (found : Option (List ℕ)) → Decided (IsFrom least limit found)
 from-or-not least limit found = elim (whole-or-not found) [
   | inr none ↦ inr (λ n is. none n is.0)
   | inl (n, whole) ↦ elim (cases_lt n limit) [
@@ -40,15 +48,19 @@ from-or-not least limit found = elim (whole-or-not found) [
   ]
 ]
 
+pub froms : (least limit : ℕ) → IsClear (IsFrom least limit)
+froms least limit = record { decided = λ found fits. from-or-not least limit found; once = from-once least limit }
+
 -- ---- values, arrays, objects
-pub there-or-not : (found : Option (List ℕ)) → Decided (IsThere found)
+there-or-not : (found : Option (List ℕ)) → Decided (IsThere found)
 there-or-not None = inr (λ v e. cc)
 there-or-not (Some v) = inl (v, refl)
 
-pub there-once : (found : Option (List ℕ)) (a b : List ℕ) → IsThere found a → IsThere found b → a ≡ b
-there-once found a b one two = same_Some _ _ (sym one ∙ two)
+pub values : IsClear IsThere
+values =
+    record { decided = λ found fits. there-or-not found; once = λ found a b one two. same_Some _ _ (sym one ∙ two) }
 
-pub array-decided : (found : Option (List ℕ)) → Fits found → Decided (IsArray found)
+array-decided : (found : Option (List ℕ)) → Fits found → Decided (IsArray found)
 array-decided None fits = inr (λ items is. let e = is.1 in cc)
 array-decided (Some value) fits = elim (array-or-not value fits) [
   | inl (items, all, e) ↦ inl (items, (all, ap Some e))
@@ -58,66 +70,84 @@ array-decided (Some value) fits = elim (array-or-not value fits) [
 pub array-alike : (found : Option (List ℕ)) (a b : List (List ℕ)) → IsArray found a → IsArray found b → a ≡ b
 array-alike found a b one two = array-once a b one.0 two.0 (same_Some _ _ (sym one.1 ∙ two.1))
 
+pub arrays : IsClear IsArray
+arrays = record { decided = array-decided; once = array-alike }
+
 pub object-decided : (value : List ℕ) → IsCompact 128 value → Decided (IsObject value)
 object-decided value is = elim (object-or-not value is) [
   | inl (members, are, e) ↦ inl (members, record { are_members = are; spelled = e })
   | inr none ↦ inr (λ members object. none members object.spelled)
 ]
 
-pub has-decided : (found : Option (List ℕ)) → Fits found → Decided (HasObject found)
+has-decided : (found : Option (List ℕ)) → Fits found → Decided (HasObject found)
 has-decided None fits = inr (λ members is. let e = is.1 in cc)
 has-decided (Some value) fits = elim (object-decided value fits) [
   | inl (members, object) ↦ inl (members, (value, refl, object))
   | inr none ↦ inr (λ members is. none members (subst (λ v. IsObject v members) (same_Some _ _ (sym is.1)) is.2))
 ]
 
-pub has-once : (found : Option (List ℕ)) (a b : List Pair) → HasObject found a → HasObject found b → a ≡ b
+has-once : (found : Option (List ℕ)) (a b : List Pair) → HasObject found a → HasObject found b → a ≡ b
 has-once found a b one two =
     members-once two.0 a b (subst (λ v. IsObject v a) (same_Some _ _ (sym one.1 ∙ two.1)) one.2) two.2
 
-pub shallow-decided : (found : Option (List ℕ)) → Fits found → Decided (IsShallow found)
+pub objects : IsClear HasObject
+objects = record { decided = has-decided; once = has-once }
+
+shallow-decided : (found : Option (List ℕ)) → Fits found → Decided (IsShallow found)
 shallow-decided None fits = inr (λ v is. let e = is.0 in cc)
 shallow-decided (Some value) fits = elim (nests-or-not value 100 fits) [
   | inl is ↦ inl (value, (refl, is))
   | inr none ↦ inr (λ v is. none (subst (IsCompact 100) (same_Some _ _ (sym is.0)) is.1))
 ]
 
-pub shallow-once : (found : Option (List ℕ)) (a b : List ℕ) → IsShallow found a → IsShallow found b → a ≡ b
-shallow-once found a b one two = same_Some _ _ (sym one.0 ∙ two.0)
+pub shallow : IsClear IsShallow
+shallow = record { decided = shallow-decided; once = λ found a b one two. same_Some _ _ (sym one.0 ∙ two.0) }
 
 -- ---- texts and words
-pub ids-decided : (found : Option (List ℕ)) → Fits found → Decided (AreIds found)
+pub texts : IsClear IsText
+texts = record { decided = text-or-not; once = text-once }
+
+ids-decided : (found : Option (List ℕ)) → Fits found → Decided (AreIds found)
 ids-decided found fits = elim (texts-or-not found fits) [
   | inl (texts, are) ↦ inl (first_texts texts, (texts, are, refl))
   | inr none ↦ inr (λ ids is. none is.0 is.1)
 ]
 
-pub ids-once : (found : Option (List ℕ)) (a b : List (List ℕ)) → AreIds found a → AreIds found b → a ≡ b
+ids-once : (found : Option (List ℕ)) (a b : List (List ℕ)) → AreIds found a → AreIds found b → a ≡ b
 ids-once found a b one two = one.2 ∙ (ap first_texts (texts-once found one.0 two.0 one.1 two.1) ∙ sym two.2)
 
-pub told-decided : {A : Type 0} (word : A → List ℕ) (xs : List A) → AreTold word xs → (found : Option (List ℕ))
-    → Decided (λ (x : A). found ≡ Some (word x))
-told-decided word xs told None = inr (λ x e. cc)
-told-decided word xs told (Some value) = elim (word-or-not word xs told value) [
-  | inl (x, e) ↦ inl (x, ap Some e)
-  | inr none ↦ inr (λ x e. none x (same_Some _ _ e))
-]
+pub ids : IsClear AreIds
+ids = record { decided = ids-decided; once = ids-once }
 
-pub told-once : {A : Type 0} (word : A → List ℕ) (xs : List A) → AreTold word xs → (found : Option (List ℕ)) (x y : A)
-    → found ≡ Some (word x) → found ≡ Some (word y) → x ≡ y
-told-once word xs told None x y e f = cc
-told-once word xs told (Some value) x y e f = word-once word xs told value x y (same_Some _ _ e) (same_Some _ _ f)
+-- what is told by its word
+pub told : {A : Type 0} (word : A → List ℕ) (xs : List A) → AreTold word xs
+    → IsClear (λ found (x : A). found ≡ Some (word x))
+told {A = A} word xs all = record { decided = decided; once = once }
+  where
+    decided : (found : Option (List ℕ)) → Fits found → Decided (λ (x : A). found ≡ Some (word x))
+    decided None fits = inr (λ x e. cc)
+    decided (Some value) fits = elim (word-or-not word xs all value) [
+      | inl (x, e) ↦ inl (x, ap Some e)
+      | inr none ↦ inr (λ x e. none x (same_Some _ _ e))
+    ]
 
-pub capture-decided : (found : Option (List ℕ)) → Decided (IsCapture found)
-capture-decided None = inl (captures.Now, refl)
+    once : (found : Option (List ℕ)) (x y : A) → found ≡ Some (word x) → found ≡ Some (word y) → x ≡ y
+    once None x y e f = cc
+    once (Some value) x y e f = word-once word xs all value x y (same_Some _ _ e) (same_Some _ _ f)
+
+pub sides : IsClear IsSide
+sides = told _ _ sides-told
+
+capture-decided : (found : Option (List ℕ)) → Decided (IsCapture found)
+capture-decided None = inl (capturing.Now, refl)
 capture-decided (Some value) = word-or-not capture_text all_captures captures-told value
 
-pub capture-once : (found : Option (List ℕ)) (a b : Capture) → IsCapture found a → IsCapture found b → a ≡ b
+capture-once : (found : Option (List ℕ)) (a b : Capture) → IsCapture found a → IsCapture found b → a ≡ b
 capture-once None a b one two = one ∙ sym two
 capture-once (Some value) a b one two = word-once capture_text all_captures captures-told value a b one two
 
-pub side-decided : (found : Option (List ℕ)) → Decided (IsSide found)
-side-decided found = told-decided side_text all_sides sides-told found
+pub captures : IsClear IsCapture
+captures = record { decided = λ found fits. capture-decided found; once = capture-once }
 
 -- ---- spots
 top_bottom : quote (codes "top") ≡ quote (codes "bottom") → ⊥
@@ -136,20 +166,20 @@ after-once value a b one two =
     text-once (value_at (codes "after") two.0) a b
     (subst (λ ms. IsText (value_at (codes "after") ms) a) (members-once value one.0 two.0 one.1 two.1) one.2) two.2
 
-pub spot-once : (found : Option (List ℕ)) (a b : Spot) → IsSpot found a → IsSpot found b → a ≡ b
+spot-once : (found : Option (List ℕ)) (a b : Spot) → IsSpot found a → IsSpot found b → a ≡ b
 spot-once None a b one two = one ∙ sym two
-spot-once (Some value) spots.Top spots.Top one two = refl
-spot-once (Some value) spots.Top spots.Bottom one two = absurd (top_bottom (sym one ∙ two))
-spot-once (Some value) spots.Top (spots.After b) one two = absurd (quote-object (codes "top") value two.0 one two.1)
-spot-once (Some value) spots.Bottom spots.Top one two = absurd (top_bottom (sym two ∙ one))
-spot-once (Some value) spots.Bottom spots.Bottom one two = refl
-spot-once (Some value) spots.Bottom (spots.After b) one two =
+spot-once (Some value) placing.Top placing.Top one two = refl
+spot-once (Some value) placing.Top placing.Bottom one two = absurd (top_bottom (sym one ∙ two))
+spot-once (Some value) placing.Top (placing.After b) one two = absurd (quote-object (codes "top") value two.0 one two.1)
+spot-once (Some value) placing.Bottom placing.Top one two = absurd (top_bottom (sym two ∙ one))
+spot-once (Some value) placing.Bottom placing.Bottom one two = refl
+spot-once (Some value) placing.Bottom (placing.After b) one two =
     absurd (quote-object (codes "bottom") value two.0 one two.1)
-spot-once (Some value) (spots.After a) spots.Top one two = absurd (quote-object (codes "top") value one.0 two one.1)
-spot-once (Some value) (spots.After a) spots.Bottom one two =
+spot-once (Some value) (placing.After a) placing.Top one two = absurd (quote-object (codes "top") value one.0 two one.1)
+spot-once (Some value) (placing.After a) placing.Bottom one two =
     absurd (quote-object (codes "bottom") value one.0 two one.1)
-spot-once (Some value) (spots.After a) (spots.After b) one two =
-    ap (λ id. spots.After id) (after-once value a b one two)
+spot-once (Some value) (placing.After a) (placing.After b) one two =
+    ap (λ id. placing.After id) (after-once value a b one two)
 
 after-decided : (value : List ℕ) → IsCompact 128 value → Decided (IsSpotAfter value)
 after-decided value is = elim (object-decided value is) [
@@ -165,9 +195,9 @@ after-decided value is = elim (object-decided value is) [
 
 pub no-spot : (value : List ℕ) → value ≢ quote (codes "top") → value ≢ quote (codes "bottom")
     → ((id : List ℕ) → IsSpotAfter value id → ⊥) → (spot : Spot) → IsSpot (Some value) spot → ⊥
-no-spot value top bottom after spots.Top is = top is
-no-spot value top bottom after spots.Bottom is = bottom is
-no-spot value top bottom after (spots.After id) is = after id is
+no-spot value top bottom after placing.Top is = top is
+no-spot value top bottom after placing.Bottom is = bottom is
+no-spot value top bottom after (placing.After id) is = after id is
 
 is-or-not : (value wanted : List ℕ) → (value ≡ wanted) ⊎ (value ≢ wanted)
 is-or-not value wanted = elim (cases_Bool (bytes_eq value wanted)) [
@@ -175,21 +205,24 @@ is-or-not value wanted = elim (cases_Bool (bytes_eq value wanted)) [
   | inr e ↦ inr (λ same. both_ways (bytes_eq value wanted) e (ap (λ v. bytes_eq v wanted) same ∙ bytes_eq-same wanted))
 ]
 
-pub spot-decided : (found : Option (List ℕ)) → Fits found → Decided (IsSpot found)
-spot-decided None fits = inl (spots.Top, refl)
+spot-decided : (found : Option (List ℕ)) → Fits found → Decided (IsSpot found)
+spot-decided None fits = inl (placing.Top, refl)
 spot-decided (Some value) fits = elim (is-or-not value (quote (codes "top"))) [
-  | inl top ↦ inl (spots.Top, top)
+  | inl top ↦ inl (placing.Top, top)
   | inr top ↦ elim (is-or-not value (quote (codes "bottom"))) [
-    | inl bottom ↦ inl (spots.Bottom, bottom)
+    | inl bottom ↦ inl (placing.Bottom, bottom)
     | inr bottom ↦ elim (after-decided value fits) [
-      | inl (id, after) ↦ inl (spots.After id, after)
+      | inl (id, after) ↦ inl (placing.After id, after)
       | inr none ↦ inr (no-spot value top bottom none)
     ]
   ]
 ]
 
+pub spots : IsClear IsSpot
+spots = record { decided = spot-decided; once = spot-once }
+
 -- ---- bindings
-pub rest-decided : (found : Option (List ℕ)) → Fits found → Decided (IsRest found)
+rest-decided : (found : Option (List ℕ)) → Fits found → Decided (IsRest found)
 rest-decided None fits = inl ([], refl)
 rest-decided (Some value) fits = elim (nests-or-not value 100 fits) [
   | inr none ↦ inr (λ rest is. none is.0)
@@ -201,12 +234,15 @@ rest-decided (Some value) fits = elim (nests-or-not value 100 fits) [
   ]
 ]
 
-pub rest-once : (found : Option (List ℕ)) (a b : List Member) → IsRest found a → IsRest found b → a ≡ b
+rest-once : (found : Option (List ℕ)) (a b : List Member) → IsRest found a → IsRest found b → a ≡ b
 rest-once None a b one two = one ∙ sym two
 rest-once (Some value) a b (deep, (members, object, are)) (deep', (others, object', are')) =
     others-once (bytes_eq (codes "elementId")) (find_in others) a b
     (subst (λ (ms : List Pair). AreOthers (bytes_eq (codes "elementId")) (find_in ms) a)
     (members-once value members others object object') are) are'
+
+pub rests : IsClear IsRest
+rests = record { decided = rest-decided; once = rest-once }
 
 -- ---- picks
 -- a number is no array
@@ -233,7 +269,7 @@ pair-once made parts a b (first, second, e, from, whole) (first', second', e', f
     second-same : {x y u v : List ℕ} → x ∷ u ∷ [] ≡ y ∷ v ∷ [] → u ≡ v
     second-same e = cc
 
-pub pick-once : (made : ℕ) (item : List ℕ) (a b : Pick) → IsPick made item a → IsPick made item b → a ≡ b
+pick-once : (made : ℕ) (item : List ℕ) (a b : Pick) → IsPick made item a → IsPick made item b → a ≡ b
 pick-once made item (chosen.All m) (chosen.All n) one two =
     ap (λ k. chosen.All k) (from-once 0 made (Some item) m n one two)
 pick-once made item (chosen.All m) (chosen.One n i) one two = absurd (number-array item m two.0 one.0 two.1)
@@ -275,7 +311,7 @@ pick-decided made item is = elim (array-decided (Some item) is) [
   ]
 ]
 
-pub picks-once : (made : ℕ) (items : List (List ℕ)) (a b : List Pick) → ArePicks made items a → ArePicks made items b
+picks-once : (made : ℕ) (items : List (List ℕ)) (a b : List Pick) → ArePicks made items a → ArePicks made items b
     → a ≡ b
 picks-once made [] a b one two = one ∙ sym two
 picks-once made (item ∷ items) a b (p, ps, e, is, are) (q, qs, f, also, others) =
@@ -292,7 +328,7 @@ picks-decided made (item ∷ items) all = elim (pick-decided made item (Value-de
   ]
 ]
 
-pub has_picks-decided : (made : ℕ) (found : Option (List ℕ)) → Fits found → Decided (HasPicks made found)
+has_picks-decided : (made : ℕ) (found : Option (List ℕ)) → Fits found → Decided (HasPicks made found)
 has_picks-decided made found fits = elim (array-decided found fits) [
   | inr none ↦ inr (λ ps has. none has.0 has.1)
   | inl (items, array) ↦ elim (picks-decided made items array.0) [
@@ -302,7 +338,10 @@ has_picks-decided made found fits = elim (array-decided found fits) [
   ]
 ]
 
-pub has_picks-once : (made : ℕ) (found : Option (List ℕ)) (a b : List Pick) → HasPicks made found a
+has_picks-once : (made : ℕ) (found : Option (List ℕ)) (a b : List Pick) → HasPicks made found a
     → HasPicks made found b → a ≡ b
 has_picks-once made found a b (items, array, are) (others, array', are') =
     picks-once made others a b (subst (λ is. ArePicks made is a) (array-alike found items others array array') are) are'
+
+pub picked : (made : ℕ) → IsClear (HasPicks made)
+picked made = record { decided = has_picks-decided made; once = has_picks-once made }

@@ -2,10 +2,7 @@ pub mod Behind
 pub mod Brought
 pub mod FormsOne
 pub mod Kept
-pub mod Lacking
-pub mod LinesKept
 pub mod LinesOne
-pub mod NeverJson
 pub mod PicksMore
 pub mod Readings
 pub mod Said

@@ -8,8 +8,7 @@ use Rattle.session_text.specs.Taken.{with_event}
 use Rattle.session_text.specs.declared.event.Event.{Event}
 use Rattle.session_text.specs.declared.header.Header.{Header}
 use Rattle.session_text.specs.declared.session.Session.{Session}
-use Rattle.session_text.proofs.Brought.{header-elements, event-brings}
-use Rattle.session_text.proofs.Kept.{header-kept, event-kept}
+use Rattle.session_text.proofs.RowsOne.{header-kept, event-kept}
 
 all-more : (P : Event → Type 0) (events : List Event) (event : Event) → AllByRecursion P events → P event
     → AllByRecursion P (events ++ event ∷ [])
@@ -29,8 +28,8 @@ session-begun text head says =
       some = kept.some;
       most = kept.most;
       seed = kept.seed;
-      keys = kept.keys;
-      elements = header-elements text head says;
+      keys = kept.scene.keys;
+      elements = kept.scene.elements;
       few = omega arith;
       places = tt;
       limits = tt;
@@ -52,7 +51,6 @@ session-more session text event is fewer says =
       few = omega (arith, fewer, length-append session.events (event ∷ []));
       places = all-more (IsAmong session.replicas) session.events event is.places kept.place;
       limits = all-more IsEventWithinLimits session.events event is.limits kept.limits;
-      brings = all-more BringsElements session.events event is.brings
-          (event-brings session.replicas (made_after 0 session.events) text event says);
+      brings = all-more BringsElements session.events event is.brings kept.brings;
       picks = picks-more 0 session.events event is.picks kept.picks;
     }

@@ -1,13 +1,16 @@
--- Scenes and elements that stand in a session's text: each is read or has a first fault, and one of both alone.
+-- Scenes, elements and clips that stand in a session's text: each is read or has a first fault, and one of both alone.
 use Rattle.std.proofs.Common.{◌≡◌, ◌⊎◌, inl, inr, ℕ, List, [], Option, Some, None, Result, Ok, Err, append-nil, refl, sym, ap, ap₂, subst, ◌∙◌, arith}
 use Rattle.std.specs.List.{AllByRecursion}
 use Rattle.json_text.specs.Value.{IsCompact, Stands}
 use Rattle.json_text.proofs.CallerLemmas.{Stands-once}
 use Rattle.elem.specs.ElementValue.{ElementValue}
+use Rattle.elem.specs.Facts.{IsElement}
+use Rattle.elem.specs.Order.{HaveDistinctIds}
+use Rattle.elem.specs.Said.{HasValidTexts, AreElements}
 use Rattle.elem_read.specs.Reading.{IsSelection, IsElementIn, IsFaultIn}
 use Rattle.elem_read.specs.declared.fault.ElemFault.{ElemFault}
 use Rattle.elem_read.specs.declared.fault.ElemFault.TheVariants.{Kind}
-use Rattle.elem_read.proofs.CallerLemmas.{Fits, read-exists, read-once, faulty-once, faultless, read-or-faulty, element-once, element-faultless, element-kept, fault-dropped}
+use Rattle.elem_read.proofs.CallerLemmas.{Fits, read-exists, read-once, faulty-once, faultless, read-or-faulty, element-once, element-faultless, element-kept, fault-dropped, IsSound-read}
 use Rattle.elem_read.proofs.CallerLemmas as elements
 use Rattle.scene_file.specs.Reading.{IsSceneOf, IsSceneFault, IsSceneAt, IsSceneFaultAt}
 use Rattle.scene_file.specs.declared.fault.SceneFault.{SceneFault}
@@ -15,14 +18,15 @@ use Rattle.scene_file.specs.declared.fault.SceneFault.TheVariants as scenes
 use Rattle.scene_file.specs.declared.scene.Scene.{Scene as Board}
 use Rattle.scene_file.proofs.CallerLemmas.{scene-or-fault, scene-once, fault-once, fault-none, behind}
 use Rattle.clips.specs.declared.clip.Clip.{Clip}
-use Rattle.clips.proofs.CallerLemmas.{clip-faultless, clip-once, clip-or-fault}
+use Rattle.clips.proofs.CallerLemmas.{clip-distinct, clip-faultless, clip-once, clip-or-fault, clip-whole}
 use Rattle.clips.proofs.CallerLemmas as clips
 use Rattle.session_text.specs.Commands.{IsClipIn, IsDrawnAs}
 use Rattle.session_text.specs.Events.{SceneOf, AreDrawnAs}
 use Rattle.session_text.specs.declared.fault.TextFault.{TextFault}
-use Rattle.session_text.specs.declared.fault.TextFault.TheVariants.{Scene, Element}
+use Rattle.session_text.specs.declared.fault.TextFault.TheVariants.{Json, Scene, Element}
 use Rattle.session_text.specs.declared.fault.TextFault.TheVariants as faults
-use Rattle.session_text.proofs.Readings.{IsOne}
+use Rattle.session_text.proofs.Brought.{IsSceneKept, scene-kept, whole-elements, read-elements}
+use Rattle.session_text.proofs.Readings.{IsRead, gives-read}
 
 -- ---- a scene
 alone : (text : List ℕ) → IsCompact 128 text → Stands text text []
@@ -77,9 +81,13 @@ scene-alike value compact (Err f) (Err g) (why, e, faulty) (other, e', also) =
     ∙ (ap Scene (fault-once value 0 why other (behind value 0 why value [] (alone value compact) faulty)
     (behind value 0 other value [] (alone value compact) also)) ∙ sym e'))
 
-pub scene-one : (found : Option (List ℕ)) → Fits found → IsOne (SceneOf found)
-scene-one None fits = record { some = (Ok None, refl); once = λ a b e f. e ∙ sym f }
-scene-one (Some value) fits = record { some = scene-told value fits; once = scene-alike value fits }
+pub scene-read : (found : Option (List ℕ)) → Fits found → IsRead IsSceneKept (SceneOf found)
+scene-read None fits = gives-read None (record { keys = tt; elements = tt })
+scene-read (Some value) fits = record {
+  one = record { some = scene-told value fits; once = scene-alike value fits };
+  holds = scene-kept value;
+  formed = λ found is. let e : Json found ≡ Scene is.0 = is.1 in cc;
+}
 
 -- ---- an element
 drawn-told : (value : List ℕ) → IsCompact 128 value → (answer : Result ElementValue TextFault) × IsDrawnAs value answer
@@ -108,8 +116,13 @@ drawn-alike value (Err f) (Ok d) (why, same, is) also = absurd (no-why value d w
 drawn-alike value (Err f) (Err g) (why, same, is) (other, same', also) =
     ap (λ h. Err h) (same ∙ (ap (λ w. Element 0 w) (whys value why other is also) ∙ sym same'))
 
-pub drawn-one : (value : List ℕ) → IsCompact 128 value → IsOne (IsDrawnAs value)
-drawn-one value compact = record { some = drawn-told value compact; once = drawn-alike value }
+pub drawn-read : (value : List ℕ) → IsCompact 128 value
+    → IsRead (λ (e : ElementValue). IsElement e × HasValidTexts e) (IsDrawnAs value)
+drawn-read value compact = record {
+  one = record { some = drawn-told value compact; once = drawn-alike value };
+  holds = λ e is. let sound = IsSound-read value e is in (sound.is_element, sound.written);
+  formed = λ found is. let e : Json found ≡ Element 0 is.0 = is.1 in cc;
+}
 
 -- ---- a clip
 clip-told : (value : List ℕ) → IsCompact 128 value → (answer : Result Clip TextFault) × IsClipIn value answer
@@ -125,8 +138,13 @@ clip-alike value (Err f) (Ok d) (why, same, is) also = absurd (clip-faultless va
 clip-alike value (Err f) (Err g) (why, same, is) (other, same', also) =
     ap (λ h. Err h) (same ∙ (ap (λ w. faults.Clip w) (clips.fault-once value why other is also) ∙ sym same'))
 
-pub clip-one : (value : List ℕ) → IsCompact 128 value → IsOne (IsClipIn value)
-clip-one value compact = record { some = clip-told value compact; once = clip-alike value }
+pub clip-read : (value : List ℕ) → IsCompact 128 value
+    → IsRead (λ (clip : Clip). HaveDistinctIds clip.elements × AreElements clip.elements) (IsClipIn value)
+clip-read value compact = record {
+  one = record { some = clip-told value compact; once = clip-alike value };
+  holds = λ clip is. (clip-distinct value clip is, whole-elements clip.elements (clip-whole value clip is));
+  formed = λ found is. let e : Json found ≡ faults.Clip is.0 = is.1 in cc;
+}
 
 -- ---- elements
 drawings-told : (values : List (List ℕ)) → AllByRecursion (IsCompact 127) values
@@ -145,5 +163,10 @@ drawings-alike values (Err f) (Err g) (place, why, same, is) (place', why', same
     let both = faulty-once values place place' why why' is also in
     ap (λ h. Err h) (same ∙ (ap₂ Element both.0 both.1 ∙ sym same'))
 
-pub drawings-one : (values : List (List ℕ)) → AllByRecursion (IsCompact 127) values → IsOne (AreDrawnAs values)
-drawings-one values all = record { some = drawings-told values all; once = drawings-alike values }
+pub drawings-read : (values : List (List ℕ)) → AllByRecursion (IsCompact 127) values
+    → IsRead AreElements (AreDrawnAs values)
+drawings-read values all = record {
+  one = record { some = drawings-told values all; once = drawings-alike values };
+  holds = read-elements values;
+  formed = λ found is. let e : Json found ≡ Element is.0 is.1 = is.2 in cc;
+}

@@ -1,5 +1,5 @@
 -- Things that are told by words.
-use Rattle.std.proofs.Common.{◌≡◌, ◌⊎◌, inl, inr, ℕ, List, [], ◌∷◌, Option, Some, None, bytes_eq, if◌then◌else◌, refl, sym, ap, ◌∙◌}
+use Rattle.std.proofs.Common.{◌≡◌, ◌⊎◌, inl, inr, ℕ, List, [], ◌∷◌, Option, Some, None, bytes_eq, if◌then◌else◌, refl, sym, ap, subst, ◌∙◌}
 use Rattle.std.proofs.lemmas.Bool.{cases_Bool}
 use Rattle.json_text.proofs.CallerLemmas.{bytes_eq-true}
 use Rattle.json_text.specs.Characters.{quote}
@@ -49,6 +49,22 @@ word-or-not word xs told value = elim (seek-found word xs value) [
   | inr none ↦ inr (λ x e. let two : None ≡ Some x = sym none ∙ (ap (seek word xs) e ∙ told x) in cc)
 ]
 
+-- None of these has this word.
+abbrev pub HasNone : {A : Type 0} → (A → List ℕ) → List A → Option (List ℕ) → Type 0
+HasNone word [] found = Unit {0}
+HasNone word (x ∷ xs) found = (found ≡ Some (word x) → ⊥) × HasNone word xs found
+
+pub none-told : {A : Type 0} (word : A → List ℕ) (xs : List A) → AreTold word xs → (found : Option (List ℕ))
+    → HasNone word xs found → (x : A) → found ≡ Some (word x) → ⊥
+none-told {A = A} word xs told found none x e = not_first xs (subst (HasNone word xs) e none) (told x)
+  where
+    not_first : (ys : List A) → HasNone word ys (Some (word x)) → seek word ys (word x) ≡ Some x → ⊥
+    not_first [] none first = cc
+    not_first (y ∷ ys) none first = elim (cases_Bool (bytes_eq (word x) (word y))) [
+      | inl same ↦ none.0 (ap Some (bytes_eq-true (word x) (word y) same))
+      | inr other ↦ not_first ys none.1 (rw other at first)
+    ]
+
 pub all_captures : List Capture
 all_captures = captures.Now ∷ captures.Later ∷ captures.Never ∷ []
 
@@ -66,7 +82,7 @@ unfolding all_sides quote
 sides-told sides.Start = refl
 sides-told sides.End = refl
 
-pub all_asked : List Asked
+unfoldable pub all_asked : List Asked
 all_asked =
     asked.Create ∷ asked.Set ∷ asked.Delete ∷ asked.Place ∷ asked.Bind ∷ asked.Unbind ∷ asked.Label ∷ asked.Unlabel
     ∷ asked.Frame
@@ -89,7 +105,7 @@ asked-told asked.Ungroup = refl
 asked-told asked.Duplicate = refl
 asked-told asked.Paste = refl
 
-pub all_happenings : List Happening
+unfoldable pub all_happenings : List Happening
 all_happenings =
     happenings.Change ∷ happenings.Update ∷ happenings.Deliver ∷ happenings.Hold ∷ happenings.Release ∷ happenings.Undo
     ∷ happenings.Redo ∷ []
@@ -104,7 +120,7 @@ happenings-told happenings.Release = refl
 happenings-told happenings.Undo = refl
 happenings-told happenings.Redo = refl
 
-pub all_line_names : List LineName
+unfoldable pub all_line_names : List LineName
 all_line_names =
     named.Change ∷ named.Undo ∷ named.Redo ∷ named.Take ∷ named.Receive ∷ named.Hold ∷ named.Release ∷ named.Scene
     ∷ named.State ∷ named.Stored ∷ named.Lengths ∷ named.Pending ∷ []

@@ -1,23 +1,24 @@
 //! The members of a session's texts, each of one form.
 
 ghost use Rattle.std.specs.Prelude.{◌≡◌, ◌↔◌, Some, IfOk, IsTrue, MatchOption};
+ghost use Rattle.std.specs.Result.{result_map_both};
 ghost use Rattle.json_text.specs.Members.{pairs};
 ghost use Rattle.elem_read.specs.Faults.{Lacks};
 ghost use Rattle.elem.specs.Forms.{IsText, IsWholeNumber, IsObject};
-ghost use Rattle.session_text.specs.Forms.{IsFrom, IsThere, IsArray, IsShallow, AreIds, IsCapture, IsSide, IsSpot, IsRest};
-ghost use Rattle.session_text.specs.Reads.{MemberOf};
+ghost use Rattle.session_text.specs.Forms.{IsFrom, IsThere, IsArray, HasObject, IsShallow, AreIds, IsCapture, IsSide, IsSpot, IsRest};
+ghost use Rattle.session_text.specs.Reads.{Or, MemberOf};
 ghost use Rattle.session_text.specs.inner.Reads.{IsReadResult};
+ghost use Rattle.session_text.specs.declared.fault.TextFault.TheVariants as faults;
 ghost use Rattle.session_text.specs.declared.name.MemberName.TheVariants as names;
 
 use crate::fault::TextFault;
 use crate::name::MemberName;
 use board_base::{List, Stop};
 use board_commands::{Capture, Side, Spot};
-use elem_read::further_members;
+use elem_read::{further_members, object_members};
 use json_text::{Member, Raw, Text, first_occurrences};
 use scene_json::{
-    has_value, items, members, nests_at_most, shaped, text_named, texts_of, value_named,
-    whole_named,
+    has_value, items, nests_at_most, shaped, text_named, texts_of, value_named, whole_named,
 };
 use std::alloc::{AllocError, Global};
 
@@ -91,12 +92,33 @@ pub(crate) fn array(
     }
 }
 
-/// The members of the object that the value is, if it is one.
-pub(crate) fn object(alloc: Global, value: &Raw) -> Result<Option<List<Member>>, AllocError>
-    ensures { IfOk result (λ found. MatchOption found
-        (Lacks (IsObject value.now)) (λ members. IsObject value.now (pairs members))) }
+/// The members of the member of this name, an object.
+pub(crate) fn object(
+    alloc: Global,
+    members: &List<Member>,
+    name: MemberName,
+) -> Result<List<Member>, Stop<TextFault>>
+    ensures { IsReadResult (MemberOf name HasObject (pairs members.now))
+        (result_map_both pairs (λ stop. stop) result) }
 {
-    shaped(members(alloc, value))
+    let Some(value) = value_named(members, name.word()) else {
+        return Err(Stop::Fault(TextFault::Member(name)));
+    };
+    match object_members(alloc, value)? {
+        Some(members) => Ok(members),
+        None => Err(Stop::Fault(TextFault::Member(name))),
+    }
+}
+
+/// The members of the text, an object.
+pub(crate) fn text_members(alloc: Global, text: &Raw) -> Result<List<Member>, Stop<TextFault>>
+    ensures { IsReadResult (Or (IsObject text.now) faults.NotObject)
+        (result_map_both pairs (λ stop. stop) result) }
+{
+    match object_members(alloc, text)? {
+        Some(members) => Ok(members),
+        None => Err(Stop::Fault(TextFault::NotObject)),
+    }
 }
 
 /// The ids, each once.
@@ -170,7 +192,7 @@ fn spot_in(alloc: Global, value: &Raw) -> Result<Option<Spot>, AllocError>
     if is(value, "\"bottom\"") {
         return Ok(Some(Spot::Bottom));
     }
-    let Some(found) = object(alloc, value)? else {
+    let Some(found) = object_members(alloc, value)? else {
         return Ok(None);
     };
     match text_named(alloc, &found, "after")? {
@@ -217,7 +239,7 @@ fn rest_in(alloc: Global, value: &Raw) -> Result<Option<List<Member>>, AllocErro
     if !nests_at_most(value, DEEPEST) {
         return Ok(None);
     }
-    match object(alloc, value)? {
+    match object_members(alloc, value)? {
         Some(found) => Ok(Some(further_members(found)?)),
         None => Ok(None),
     }

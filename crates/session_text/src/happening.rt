@@ -2,7 +2,7 @@
 
 ghost use Rattle.std.specs.Prelude.{ℕ};
 ghost use Rattle.json_text.specs.Members.{pairs};
-ghost use Rattle.session_text.specs.Events.{IsHappening, AreDrawnAs, TimeOf, HeldOf, CommandIn, ElementsIn, EventNamed, EventOf, EventText};
+ghost use Rattle.session_text.specs.Events.{IsHappening, AreDrawnAs, TimeOf, HeldOf, CommandIn, ElementsIn, EventNamed, EventText};
 ghost use Rattle.session_text.specs.Reads.{MemberOf};
 ghost use Rattle.session_text.specs.inner.Reads.{IsReadResult};
 ghost use Rattle.session_text.specs.declared.happening.Happening.TheVariants as happenings;
@@ -11,7 +11,7 @@ ghost use Rattle.session_text.specs.declared.name.MemberName.TheVariants as name
 use crate::command::command_of;
 use crate::event::Event;
 use crate::fault::TextFault;
-use crate::fields::{array, capture, number_from, object, text, whole};
+use crate::fields::{array, capture, number_from, object, text, text_members, whole};
 use crate::name::MemberName;
 use crate::picking::picks;
 use board_base::{List, Stop};
@@ -19,7 +19,7 @@ use board_commands::Command;
 use elem::Element;
 use elem_read::read_elements;
 use json_text::{Member, Raw, Text};
-use scene_json::{has_value, value_named};
+use scene_json::has_value;
 use std::alloc::Global;
 
 /// Which event it is.
@@ -43,23 +43,9 @@ pub(crate) fn read_event(
 ) -> Result<Event, Stop<TextFault>>
     ensures { IsReadResult (EventText replicas made value.now) result }
 {
-    match object(alloc, value)? {
-        Some(found) => event_of(alloc, &found, replicas, made),
-        None => Err(Stop::Fault(TextFault::NotObject)),
-    }
-}
-
-/// The event that these members are.
-fn event_of(
-    alloc: Global,
-    members: &List<Member>,
-    replicas: u64,
-    made: u64,
-) -> Result<Event, Stop<TextFault>>
-    ensures { IsReadResult (EventOf replicas made (pairs members.now)) result }
-{
-    let name = which(members)?;
-    event_named(alloc, members, name, replicas, made)
+    let members = text_members(alloc, value)?;
+    let name = which(&members)?;
+    event_named(alloc, &members, name, replicas, made)
 }
 
 /// Which event the members are. It takes no memory.
@@ -179,13 +165,8 @@ fn held(
 pub(crate) fn command_in(alloc: Global, from: &List<Member>) -> Result<Command, Stop<TextFault>>
     ensures { IsReadResult (CommandIn (pairs from.now)) result }
 {
-    let Some(value) = value_named(from, "command") else {
-        return Err(Stop::Fault(TextFault::Member(MemberName::Command)));
-    };
-    match object(alloc, value)? {
-        Some(found) => command_of(alloc, &found),
-        None => Err(Stop::Fault(TextFault::Member(MemberName::Command))),
-    }
+    let members = object(alloc, from, MemberName::Command)?;
+    command_of(alloc, &members)
 }
 
 /// The elements of an update.

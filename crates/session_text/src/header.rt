@@ -7,7 +7,7 @@ ghost use Rattle.session_text.specs.Events.{SceneOf, HeaderOf, HeaderText};
 ghost use Rattle.session_text.specs.inner.Reads.{IsReadResult};
 
 use crate::fault::TextFault;
-use crate::fields::{number_from, object, whole};
+use crate::fields::{number_from, text_members, whole};
 use crate::name::MemberName;
 use board_base::{List, Stop};
 use json_text::{Member, Raw};
@@ -33,10 +33,8 @@ pub(crate) const MOST_REPLICAS: u64 = 64;
 pub(crate) fn read_header(alloc: Global, value: &Raw) -> Result<Header, Stop<TextFault>>
     ensures { IsReadResult (HeaderText value.now) result }
 {
-    match object(alloc, value)? {
-        Some(found) => header_of(alloc, &found),
-        None => Err(Stop::Fault(TextFault::NotObject)),
-    }
+    let members = text_members(alloc, value)?;
+    header_of(alloc, &members)
 }
 
 /// The header that these members are.

@@ -3,7 +3,7 @@
 ghost use Rattle.std.specs.Prelude.{◌≡◌, ◌≢◌, Ok, Err, IfOk};
 ghost use Rattle.json_reader.specs.declared.fault.JsonFault.{JsonFault};
 ghost use Rattle.json_text.specs.Members.{pairs};
-ghost use Rattle.session_text.specs.Lines.{IsLineName, OpeningOf, OpeningText, LineNamed, LineOf, LineText};
+ghost use Rattle.session_text.specs.Lines.{IsLineName, OpeningOf, OpeningText, LineNamed, LineText};
 ghost use Rattle.session_text.specs.Lines.{IsLineWithinLimits, LineBringsElements, IsReplicaOpening};
 ghost use Rattle.session_text.specs.Reads.{MemberOf};
 ghost use Rattle.session_text.specs.inner.Reads.{IsReadResult};
@@ -12,7 +12,7 @@ ghost use Rattle.session_text.specs.declared.lines.LineName.TheVariants as lines
 ghost use Rattle.session_text.specs.declared.name.MemberName.TheVariants as names;
 
 use crate::fault::TextFault;
-use crate::fields::{capture, number_from, object, text, whole};
+use crate::fields::{capture, number_from, text, text_members, whole};
 use crate::happening::{command_in, elements_in};
 use crate::header::{MOST_REPLICAS, scene};
 use crate::name::MemberName;
@@ -166,10 +166,8 @@ pub fn read_line(alloc: Global, value: &Raw) -> Result<Line, Stop<TextFault>>
 fn opening_in(alloc: Global, value: &Raw) -> Result<Opening, Stop<TextFault>>
     ensures { IsReadResult (OpeningText value.now) result }
 {
-    match object(alloc, value)? {
-        Some(found) => opening_of(alloc, &found),
-        None => Err(Stop::Fault(TextFault::NotObject)),
-    }
+    let members = text_members(alloc, value)?;
+    opening_of(alloc, &members)
 }
 
 /// The opening that these members are.
@@ -191,18 +189,9 @@ fn opening_of(alloc: Global, members: &List<Member>) -> Result<Opening, Stop<Tex
 fn line_in(alloc: Global, value: &Raw) -> Result<Line, Stop<TextFault>>
     ensures { IsReadResult (LineText value.now) result }
 {
-    match object(alloc, value)? {
-        Some(found) => line_of(alloc, &found),
-        None => Err(Stop::Fault(TextFault::NotObject)),
-    }
-}
-
-/// The line that these members are.
-fn line_of(alloc: Global, members: &List<Member>) -> Result<Line, Stop<TextFault>>
-    ensures { IsReadResult (LineOf (pairs members.now)) result }
-{
-    let name = which(members)?;
-    line_named(alloc, members, name)
+    let members = text_members(alloc, value)?;
+    let name = which(&members)?;
+    line_named(alloc, &members, name)
 }
 
 /// Which line the members are. It takes no memory.

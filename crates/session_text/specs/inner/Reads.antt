@@ -3,7 +3,6 @@
 use Rattle.std.specs.Prelude.{Result}
 use Rattle.board_base.specs.declared.stop.Stop.{Stop}
 use Rattle.session_text.specs.declared.fault.TextFault.{TextFault}
-use Rattle.session_text.specs.declared.fault.TextFault.TheVariants as faults
 use Rattle.session_text.specs.Reads.{Answers}
 
 -- A call gives what is read. Only contracts of private functions cite this.

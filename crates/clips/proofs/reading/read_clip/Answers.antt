@@ -1,12 +1,12 @@
-use Rattle.std.proofs.Common.{◌≡◌, None, Ok, Err, All, codes, refl, ap, sym, subst, ◌∙◌}
+use Rattle.std.proofs.Common.{◌≡◌, None, Err, All, codes, refl, ap, sym, subst, ◌∙◌}
 use Rattle.std.proofs.lemmas.Bool.{both_ways}
 use Rattle.std.proofs.lemmas.Option.{MatchOption-at_some, MatchOption-at_none}
-use Rattle.std.proofs.lemmas.Result.{IfOk-at_ok, err_from_is_err_and}
+use Rattle.std.proofs.lemmas.Result.{err_from_is_err_and}
 use Rattle.json_text.specs.Characters.{quote}
 use Rattle.json_text.specs.Members.{pairs}
 use Rattle.elem.specs.Order.{HaveDistinctIds}
 use Rattle.elem_read.specs.Reading.{IsWholeElement}
-use Rattle.elem_read.proofs.CallerLemmas.{is-object, stop-same}
+use Rattle.elem_read.proofs.CallerLemmas.{stop-same}
 use Rattle.scene_file.proofs.CallerLemmas.{nests-value_unless_null}
 use Rattle.clips.specs.Clips.{IsClipFault}
 use Rattle.clips.specs.Placed.{elements_in, places_in}
@@ -20,10 +20,7 @@ unfolding quote
 returns-then-not-has_value-clause-fault c = λ fault e.
     let value = c.args.value.now in
     let members = pairs c.in-Some.found in
-    let found : c.members.result ≡ Ok c.in-Some.found =
-    c.shaped.ensures.found c.in-Some.found (c.in_ok-found.was ∙ ap Ok c.in-Some.is) in
-    let object = is-object value members (IfOk-at_ok _ found c.members.ensures.spelled)
-    (IfOk-at_ok _ found c.members.ensures.kept) in
+    let object = MatchOption-at_some _ _ c.in-Some.found c.in-Some.is c.in_ok-found.ensures in
     subst (IsClipFault value) (fault-same _ NotClip fault e) (
       members,
       object,
@@ -35,10 +32,7 @@ unfolding quote
 returns-in_default-2-clause-fault c = λ fault e.
     let value = c.args.value.now in
     let members = pairs c.in-Some.found in
-    let found : c.members.result ≡ Ok c.in-Some.found =
-    c.shaped.ensures.found c.in-Some.found (c.in_ok-found.was ∙ ap Ok c.in-Some.is) in
-    let object = is-object value members (IfOk-at_ok _ found c.members.ensures.spelled)
-    (IfOk-at_ok _ found c.members.ensures.kept) in
+    let object = MatchOption-at_some _ _ c.in-Some.found c.in-Some.is c.in_ok-found.ensures in
     let kind = is-clipboard members (c.if-not-has_value.ensures.0 refl) in
     let none : c.in_ok-values.field-0 ≡ None = cc in
     subst (IsClipFault value) (fault-same _ Elements fault e) (
@@ -53,10 +47,7 @@ unfolding quote
 returns-in_default-3-clause-fault c = λ fault e.
     let value = c.args.value.now in
     let members = pairs c.in-Some.found in
-    let found : c.members.result ≡ Ok c.in-Some.found =
-    c.shaped.ensures.found c.in-Some.found (c.in_ok-found.was ∙ ap Ok c.in-Some.is) in
-    let object = is-object value members (IfOk-at_ok _ found c.members.ensures.spelled)
-    (IfOk-at_ok _ found c.members.ensures.kept) in
+    let object = MatchOption-at_some _ _ c.in-Some.found c.in-Some.is c.in_ok-found.ensures in
     let kind = is-clipboard members (c.if-not-has_value.ensures.0 refl) in
     let items = MatchOption-at_some _ _ c.in-Some-2.values c.in-Some-2.is c.in_ok-values.ensures in
     let none : c.in_ok-files.field-0 ≡ None = cc in
@@ -72,10 +63,7 @@ unfolding quote
 returns-in_err-placed-clause-fault c =
     let value = c.args.value.now in
     let members = pairs c.in-Some.found in
-    let found : c.members.result ≡ Ok c.in-Some.found =
-    c.shaped.ensures.found c.in-Some.found (c.in_ok-found.was ∙ ap Ok c.in-Some.is) in
-    let object = is-object value members (IfOk-at_ok _ found c.members.ensures.spelled)
-    (IfOk-at_ok _ found c.members.ensures.kept) in
+    let object = MatchOption-at_some _ _ c.in-Some.found c.in-Some.is c.in_ok-found.ensures in
     let kind = is-clipboard members (c.if-not-has_value.ensures.0 refl) in
     let items = MatchOption-at_some _ _ c.in-Some-2.values c.in-Some-2.is c.in_ok-values.ensures in
     let files = MatchOption-at_some _ _ c.in-Some-3.files c.in-Some-3.is c.in_ok-files.ensures in
@@ -89,10 +77,7 @@ unfolding quote
 returns-clause-clip c =
     let value = c.args.value.now in
     let members = pairs c.in-Some.found in
-    let found : c.members.result ≡ Ok c.in-Some.found =
-    c.shaped.ensures.found c.in-Some.found (c.in_ok-found.was ∙ ap Ok c.in-Some.is) in
-    let object = is-object value members (IfOk-at_ok _ found c.members.ensures.spelled)
-    (IfOk-at_ok _ found c.members.ensures.kept) in
+    let object = MatchOption-at_some _ _ c.in-Some.found c.in-Some.is c.in_ok-found.ensures in
     let live = c.in_ok-placed.ensures.read in
     record {
       members = members;
@@ -119,9 +104,6 @@ returns-clause-whole c = subst (All IsWholeElement) (sym c.in_ok-parts.ensures.0
 
 pub returns-clause-files : goal.returns-clause-files
 returns-clause-files c =
-    let members = pairs c.in-Some.found in
-    let found : c.members.result ≡ Ok c.in-Some.found =
-    c.shaped.ensures.found c.in-Some.found (c.in_ok-found.was ∙ ap Ok c.in-Some.is) in
-    (nests-value_unless_null (codes "files") members (pairs c.in-Some-3.files)
-    (IfOk-at_ok _ found c.members.ensures.kept)
+    let object = MatchOption-at_some _ _ c.in-Some.found c.in-Some.is c.in_ok-found.ensures in
+    (nests-value_unless_null (codes "files") (pairs c.in-Some.found) (pairs c.in-Some-3.files) object.are_members
     (MatchOption-at_some _ _ c.in-Some-3.files c.in-Some-3.is c.in_ok-files.ensures)).valued

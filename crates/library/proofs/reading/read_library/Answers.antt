@@ -1,10 +1,9 @@
-use Rattle.std.proofs.Common.{◌≡◌, None, Ok, refl, ap, sym, subst, ◌∙◌}
+use Rattle.std.proofs.Common.{◌≡◌, None, refl, sym, subst}
 use Rattle.std.proofs.lemmas.Bool.{both_ways}
 use Rattle.std.proofs.lemmas.Option.{MatchOption-at_some, MatchOption-at_none}
-use Rattle.std.proofs.lemmas.Result.{IfOk-at_ok, IfOk-weaker}
+use Rattle.std.proofs.lemmas.Result.{IfOk-weaker}
 use Rattle.json_text.specs.Characters.{quote}
 use Rattle.json_text.specs.Members.{pairs}
-use Rattle.elem_read.proofs.CallerLemmas.{is-object}
 use Rattle.library.specs.Reading.{IsLibFault}
 use Rattle.library.specs.declared.fault.LibFault.TheVariants.{NotLibrary, Items}
 use Rattle.library.proofs.ItemsReading.{is-library, lib_fault-same}
@@ -16,10 +15,7 @@ unfolding quote
 returns-then-not-has_value-clause-fault c = λ fault e.
     let value = c.args.value.now in
     let members = pairs c.in-Some.found in
-    let found : c.members.result ≡ Ok c.in-Some.found =
-    c.shaped.ensures.found c.in-Some.found (c.in_ok-found.was ∙ ap Ok c.in-Some.is) in
-    let object = is-object value members (IfOk-at_ok _ found c.members.ensures.spelled)
-    (IfOk-at_ok _ found c.members.ensures.kept) in
+    let object = MatchOption-at_some _ _ c.in-Some.found c.in-Some.is c.in_ok-found.ensures in
     subst (IsLibFault value) (lib_fault-same _ NotLibrary fault e) (
       members,
       object,
@@ -31,10 +27,7 @@ unfolding quote
 returns-in_default-2-clause-fault c = λ fault e.
     let value = c.args.value.now in
     let members = pairs c.in-Some.found in
-    let found : c.members.result ≡ Ok c.in-Some.found =
-    c.shaped.ensures.found c.in-Some.found (c.in_ok-found.was ∙ ap Ok c.in-Some.is) in
-    let object = is-object value members (IfOk-at_ok _ found c.members.ensures.spelled)
-    (IfOk-at_ok _ found c.members.ensures.kept) in
+    let object = MatchOption-at_some _ _ c.in-Some.found c.in-Some.is c.in_ok-found.ensures in
     let kind = is-library members (c.if-not-has_value.ensures.0 refl) in
     let none : c.in_ok-values.field-0 ≡ None = cc in
     subst (IsLibFault value) (lib_fault-same _ Items fault e) (
@@ -49,10 +42,7 @@ unfolding quote
 returns-clause-library c =
     let value = c.args.value.now in
     let members = pairs c.in-Some.found in
-    let found : c.members.result ≡ Ok c.in-Some.found =
-    c.shaped.ensures.found c.in-Some.found (c.in_ok-found.was ∙ ap Ok c.in-Some.is) in
-    let object = is-object value members (IfOk-at_ok _ found c.members.ensures.spelled)
-    (IfOk-at_ok _ found c.members.ensures.kept) in
+    let object = MatchOption-at_some _ _ c.in-Some.found c.in-Some.is c.in_ok-found.ensures in
     let kind = is-library members (c.if-not-has_value.ensures.0 refl) in
     let array = MatchOption-at_some _ _ c.in-Some-2.values c.in-Some-2.is c.in_ok-values.ensures in
     IfOk-weaker c.read_items.result _ _
@@ -70,10 +60,7 @@ unfolding quote
 returns-clause-fault c = λ fault e.
     let value = c.args.value.now in
     let members = pairs c.in-Some.found in
-    let found : c.members.result ≡ Ok c.in-Some.found =
-    c.shaped.ensures.found c.in-Some.found (c.in_ok-found.was ∙ ap Ok c.in-Some.is) in
-    let object = is-object value members (IfOk-at_ok _ found c.members.ensures.spelled)
-    (IfOk-at_ok _ found c.members.ensures.kept) in
+    let object = MatchOption-at_some _ _ c.in-Some.found c.in-Some.is c.in_ok-found.ensures in
     let kind = is-library members (c.if-not-has_value.ensures.0 refl) in
     let array = MatchOption-at_some _ _ c.in-Some-2.values c.in-Some-2.is c.in_ok-values.ensures in
     let faulty = c.read_items.ensures.fault fault e in

@@ -1,16 +1,12 @@
-use Rattle.std.proofs.lemmas.Result.{err_from_is_err_and}
 use Rattle.session_text.proofs.Readings.{given_last, stopped, went_on}
 use Rattle.session_text.proofs.command.create.Goals as goal
 
 pub returns-in_err-element : goal.returns-in_err-element
-returns-in_err-element c =
-    let p = err_from_is_err_and c.from_residual.result c.from_residual.ensures.1 in
-    rw (p.1, p.2) (stopped c.in_err-element.ensures)
+returns-in_err-element c = stopped c.in_err-element.ensures c.from_residual.ensures.1
 
 pub returns-in_err-spot : goal.returns-in_err-spot
 returns-in_err-spot c =
-    let p = err_from_is_err_and c.from_residual-in_err-spot.result c.from_residual-in_err-spot.ensures.1 in
-    rw (p.1, p.2) (went_on c.in_ok-element.ensures (stopped c.in_err-spot.ensures))
+    went_on c.in_ok-element.ensures (stopped c.in_err-spot.ensures c.from_residual-in_err-spot.ensures.1)
 
 pub returns : goal.returns
 returns c = went_on c.in_ok-element.ensures (went_on c.in_ok-spot.ensures given_last)

@@ -1,16 +1,12 @@
-use Rattle.std.proofs.lemmas.Result.{err_from_is_err_and}
 use Rattle.session_text.proofs.Readings.{given_last, stopped, went_on}
 use Rattle.session_text.proofs.command.end_of.Goals as goal
 
 pub returns-in_err-arrow : goal.returns-in_err-arrow
-returns-in_err-arrow c =
-    let p = err_from_is_err_and c.from_residual.result c.from_residual.ensures.1 in
-    rw (p.1, p.2) (stopped c.in_err-arrow.ensures)
+returns-in_err-arrow c = stopped c.in_err-arrow.ensures c.from_residual.ensures.1
 
 pub returns-in_err-side : goal.returns-in_err-side
 returns-in_err-side c =
-    let p = err_from_is_err_and c.from_residual-in_err-side.result c.from_residual-in_err-side.ensures.1 in
-    rw (p.1, p.2) (went_on c.in_ok-arrow.ensures (stopped c.in_err-side.ensures))
+    went_on c.in_ok-arrow.ensures (stopped c.in_err-side.ensures c.from_residual-in_err-side.ensures.1)
 
 pub returns : goal.returns
 returns c = went_on c.in_ok-arrow.ensures (went_on c.in_ok-side.ensures given_last)

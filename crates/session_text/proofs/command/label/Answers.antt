@@ -1,16 +1,12 @@
-use Rattle.std.proofs.lemmas.Result.{err_from_is_err_and}
 use Rattle.session_text.proofs.Readings.{given_last, stopped, went_on}
 use Rattle.session_text.proofs.command.label.Goals as goal
 
 pub returns-in_err-container : goal.returns-in_err-container
-returns-in_err-container c =
-    let p = err_from_is_err_and c.from_residual.result c.from_residual.ensures.1 in
-    rw (p.1, p.2) (stopped c.in_err-container.ensures)
+returns-in_err-container c = stopped c.in_err-container.ensures c.from_residual.ensures.1
 
 pub returns-in_err-text : goal.returns-in_err-text
 returns-in_err-text c =
-    let p = err_from_is_err_and c.from_residual-in_err-text.result c.from_residual-in_err-text.ensures.1 in
-    rw (p.1, p.2) (went_on c.in_ok-container.ensures (stopped c.in_err-text.ensures))
+    went_on c.in_ok-container.ensures (stopped c.in_err-text.ensures c.from_residual-in_err-text.ensures.1)
 
 pub returns : goal.returns
 returns c = went_on c.in_ok-container.ensures (went_on c.in_ok-text.ensures given_last)

@@ -1,21 +1,17 @@
-use Rattle.std.proofs.lemmas.Result.{err_from_is_err_and}
 use Rattle.session_text.proofs.Readings.{given_last, stopped, went_on}
 use Rattle.session_text.proofs.command.paste.Goals as goal
 
 pub returns-in_err-clip : goal.returns-in_err-clip
-returns-in_err-clip c =
-    let p = err_from_is_err_and c.from_residual.result c.from_residual.ensures.1 in
-    rw (p.1, p.2) (stopped c.in_err-clip.ensures)
+returns-in_err-clip c = stopped c.in_err-clip.ensures c.from_residual.ensures.1
 
 pub returns-in_err-prefix : goal.returns-in_err-prefix
 returns-in_err-prefix c =
-    let p = err_from_is_err_and c.from_residual-in_err-prefix.result c.from_residual-in_err-prefix.ensures.1 in
-    rw (p.1, p.2) (went_on c.in_ok-clip.ensures (stopped c.in_err-prefix.ensures))
+    went_on c.in_ok-clip.ensures (stopped c.in_err-prefix.ensures c.from_residual-in_err-prefix.ensures.1)
 
 pub returns-in_err-spot : goal.returns-in_err-spot
 returns-in_err-spot c =
-    let p = err_from_is_err_and c.from_residual-in_err-spot.result c.from_residual-in_err-spot.ensures.1 in
-    rw (p.1, p.2) (went_on c.in_ok-clip.ensures (went_on c.in_ok-prefix.ensures (stopped c.in_err-spot.ensures)))
+    went_on c.in_ok-clip.ensures (went_on c.in_ok-prefix.ensures
+    (stopped c.in_err-spot.ensures c.from_residual-in_err-spot.ensures.1))
 
 pub returns : goal.returns
 returns c = went_on c.in_ok-clip.ensures (went_on c.in_ok-prefix.ensures (went_on c.in_ok-spot.ensures given_last))

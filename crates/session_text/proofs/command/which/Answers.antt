@@ -1,30 +1,13 @@
-use Rattle.std.proofs.Common.{codes, refl}
-use Rattle.std.proofs.lemmas.Bool.{both_ways}
+use Rattle.std.proofs.Common.{codes, refl, arith}
 use Rattle.json_text.specs.Characters.{quote}
 use Rattle.json_text.specs.Members.{pairs}
 use Rattle.scene_json.specs.Named.{value_at}
-use Rattle.session_text.proofs.Lacking.{no-asked}
+use Rattle.session_text.specs.Commands.{asked_text}
+use Rattle.session_text.proofs.Words.{all_asked, asked-told, none-told}
 use Rattle.session_text.proofs.command.which.Goals as goal
 
 pub returns-else-has_value-14 : goal.returns-else-has_value-14
-unfolding quote
-returns-else-has_value-14 c = record {
-  read = (
-    no-asked (value_at (codes "name") (pairs c.args.members.now))
-        (λ is. both_ways _ c.if-has_value.false (c.has_value.ensures.1 is))
-        (λ is. both_ways _ c.if-has_value-2.false (c.has_value-else-has_value.ensures.1 is))
-        (λ is. both_ways _ c.if-has_value-3.false (c.has_value-else-has_value-2.ensures.1 is))
-        (λ is. both_ways _ c.if-has_value-4.false (c.has_value-else-has_value-3.ensures.1 is))
-        (λ is. both_ways _ c.if-has_value-5.false (c.has_value-else-has_value-4.ensures.1 is))
-        (λ is. both_ways _ c.if-has_value-6.false (c.has_value-else-has_value-5.ensures.1 is))
-        (λ is. both_ways _ c.if-has_value-7.false (c.has_value-else-has_value-6.ensures.1 is))
-        (λ is. both_ways _ c.if-has_value-8.false (c.has_value-else-has_value-7.ensures.1 is))
-        (λ is. both_ways _ c.if-has_value-9.false (c.has_value-else-has_value-8.ensures.1 is))
-        (λ is. both_ways _ c.if-has_value-10.false (c.has_value-else-has_value-9.ensures.1 is))
-        (λ is. both_ways _ c.if-has_value-11.false (c.has_value-else-has_value-10.ensures.1 is))
-        (λ is. both_ways _ c.if-has_value-12.false (c.has_value-else-has_value-11.ensures.1 is))
-        (λ is. both_ways _ c.if-has_value-13.false (c.has_value-else-has_value-12.ensures.1 is))
-        (λ is. both_ways _ c.if-has_value-14.false (c.has_value-else-has_value-13.ensures.1 is)),
-    refl,
-  );
-}
+unfolding quote all_asked
+returns-else-has_value-14 c =
+    let found = value_at (codes "name") (pairs c.args.members.now) in
+    record { read = (none-told asked_text all_asked asked-told found (grind arith), refl) }

@@ -1,11 +1,8 @@
-use Rattle.std.proofs.lemmas.Result.{err_from_is_err_and}
 use Rattle.session_text.proofs.Readings.{stopped, went_on}
 use Rattle.session_text.proofs.happening.elements_in.Goals as goal
 
 pub returns-in_err-values : goal.returns-in_err-values
-returns-in_err-values c =
-    let p = err_from_is_err_and c.from_residual.result c.from_residual.ensures.1 in
-    rw (p.1, p.2) (stopped c.in_err-values.ensures)
+returns-in_err-values c = stopped c.in_err-values.ensures c.from_residual.ensures.1
 
 pub returns : goal.returns
 returns c = went_on c.in_ok-values.ensures c.drawn.ensures

@@ -1,16 +1,11 @@
-use Rattle.std.proofs.lemmas.Result.{err_from_is_err_and}
 use Rattle.session_text.proofs.Readings.{given_last, stopped, went_on}
 use Rattle.session_text.proofs.happening.time.Goals as goal
 
 pub returns-in_err-at : goal.returns-in_err-at
-returns-in_err-at c =
-    let p = err_from_is_err_and c.from_residual.result c.from_residual.ensures.1 in
-    rw (p.1, p.2) (stopped c.in_err-at.ensures)
+returns-in_err-at c = stopped c.in_err-at.ensures c.from_residual.ensures.1
 
 pub returns-in_err-time : goal.returns-in_err-time
-returns-in_err-time c =
-    let p = err_from_is_err_and c.from_residual-in_err-time.result c.from_residual-in_err-time.ensures.1 in
-    rw (p.1, p.2) (went_on c.in_ok-at.ensures (stopped c.in_err-time.ensures))
+returns-in_err-time c = went_on c.in_ok-at.ensures (stopped c.in_err-time.ensures c.from_residual-in_err-time.ensures.1)
 
 pub returns : goal.returns
 returns c = went_on c.in_ok-at.ensures (went_on c.in_ok-time.ensures given_last)

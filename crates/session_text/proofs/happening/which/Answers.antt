@@ -1,23 +1,13 @@
-use Rattle.std.proofs.Common.{codes, refl}
-use Rattle.std.proofs.lemmas.Bool.{both_ways}
+use Rattle.std.proofs.Common.{codes, refl, arith}
 use Rattle.json_text.specs.Characters.{quote}
 use Rattle.json_text.specs.Members.{pairs}
 use Rattle.scene_json.specs.Named.{value_at}
-use Rattle.session_text.proofs.Lacking.{no-happening}
+use Rattle.session_text.specs.Events.{happening_text}
+use Rattle.session_text.proofs.Words.{all_happenings, happenings-told, none-told}
 use Rattle.session_text.proofs.happening.which.Goals as goal
 
 pub returns-else-has_value-7 : goal.returns-else-has_value-7
-unfolding quote
-returns-else-has_value-7 c = record {
-  read = (
-    no-happening (value_at (codes "do") (pairs c.args.members.now))
-        (λ is. both_ways _ c.if-has_value.false (c.has_value.ensures.1 is))
-        (λ is. both_ways _ c.if-has_value-2.false (c.has_value-else-has_value.ensures.1 is))
-        (λ is. both_ways _ c.if-has_value-3.false (c.has_value-else-has_value-2.ensures.1 is))
-        (λ is. both_ways _ c.if-has_value-4.false (c.has_value-else-has_value-3.ensures.1 is))
-        (λ is. both_ways _ c.if-has_value-5.false (c.has_value-else-has_value-4.ensures.1 is))
-        (λ is. both_ways _ c.if-has_value-6.false (c.has_value-else-has_value-5.ensures.1 is))
-        (λ is. both_ways _ c.if-has_value-7.false (c.has_value-else-has_value-6.ensures.1 is)),
-    refl,
-  );
-}
+unfolding quote all_happenings
+returns-else-has_value-7 c =
+    let found = value_at (codes "do") (pairs c.args.members.now) in
+    record { read = (none-told happening_text all_happenings happenings-told found (grind arith), refl) }

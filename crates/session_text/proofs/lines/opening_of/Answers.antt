@@ -1,27 +1,22 @@
 use Rattle.session_text.proofs.Readings.{given_last, stopped, went_on}
-use Rattle.std.proofs.lemmas.Result.{err_from_is_err_and}
 use Rattle.session_text.proofs.lines.opening_of.Goals as goal
 
 pub returns-in_err-_version : goal.returns-in_err-_version
-returns-in_err-_version c =
-    let p = err_from_is_err_and c.from_residual.result c.from_residual.ensures.1 in
-    rw (p.1, p.2) (stopped c.in_err-_version.ensures)
+returns-in_err-_version c = stopped c.in_err-_version.ensures c.from_residual.ensures.1
 
 pub returns-in_err-number : goal.returns-in_err-number
 returns-in_err-number c =
-    let p = err_from_is_err_and c.from_residual-in_err-number.result c.from_residual-in_err-number.ensures.1 in
-    rw (p.1, p.2) (went_on c.in_ok-_version.ensures (stopped c.in_err-number.ensures))
+    went_on c.in_ok-_version.ensures (stopped c.in_err-number.ensures c.from_residual-in_err-number.ensures.1)
 
 pub returns-in_err-seed : goal.returns-in_err-seed
 returns-in_err-seed c =
-    let p = err_from_is_err_and c.from_residual-in_err-seed.result c.from_residual-in_err-seed.ensures.1 in
-    rw (p.1, p.2) (went_on c.in_ok-_version.ensures (went_on c.in_ok-number.ensures (stopped c.in_err-seed.ensures)))
+    went_on c.in_ok-_version.ensures (went_on c.in_ok-number.ensures
+    (stopped c.in_err-seed.ensures c.from_residual-in_err-seed.ensures.1))
 
 pub returns-in_err-scene : goal.returns-in_err-scene
-returns-in_err-scene c =
-    let p = err_from_is_err_and c.from_residual-in_err-scene.result c.from_residual-in_err-scene.ensures.1 in
-    rw (p.1, p.2) (went_on c.in_ok-_version.ensures
-    (went_on c.in_ok-number.ensures (went_on c.in_ok-seed.ensures (stopped c.in_err-scene.ensures))))
+returns-in_err-scene c = went_on c.in_ok-_version.ensures
+    (went_on c.in_ok-number.ensures (went_on c.in_ok-seed.ensures
+    (stopped c.in_err-scene.ensures c.from_residual-in_err-scene.ensures.1)))
 
 pub returns : goal.returns
 returns c = went_on c.in_ok-_version.ensures

@@ -1,6 +1,5 @@
 use Rattle.session_text.specs.Lines.{LineText}
-use Rattle.session_text.proofs.LinesKept.{line-within, line-brings}
-use Rattle.session_text.proofs.NeverJson.{line_text-form}
+use Rattle.session_text.proofs.LinesOne.{line-within, line-brings, line-formed}
 use Rattle.session_text.proofs.Readings.{ok-told, fault-told}
 use Rattle.session_text.proofs.lines.read_line.Goals as goal
 
@@ -11,7 +10,7 @@ pub returns-clause-fault : goal.returns-clause-fault
 returns-clause-fault c = λ fault same. fault-told (LineText c.args.value.now) _ fault c.line_in.ensures same
 
 pub returns-clause-json : goal.returns-clause-json
-returns-clause-json c = λ found same. line_text-form c.args.value.now found
+returns-clause-json c = λ found same. line-formed c.args.value.now found
     (fault-told (LineText c.args.value.now) _ _ c.line_in.ensures same)
 
 pub returns-clause-within : goal.returns-clause-within

@@ -1,6 +1,5 @@
 use Rattle.session_text.specs.Lines.{OpeningText}
-use Rattle.session_text.proofs.LinesKept.{opening-kept}
-use Rattle.session_text.proofs.NeverJson.{opening_text-form}
+use Rattle.session_text.proofs.LinesOne.{opening-kept, opening-formed}
 use Rattle.session_text.proofs.Readings.{ok-told, fault-told}
 use Rattle.session_text.proofs.lines.read_opening.Goals as goal
 
@@ -11,7 +10,7 @@ pub returns-clause-fault : goal.returns-clause-fault
 returns-clause-fault c = λ fault same. fault-told (OpeningText c.args.value.now) _ fault c.opening_in.ensures same
 
 pub returns-clause-json : goal.returns-clause-json
-returns-clause-json c = λ found same. opening_text-form c.args.value.now found
+returns-clause-json c = λ found same. opening-formed c.args.value.now found
     (fault-told (OpeningText c.args.value.now) _ _ c.opening_in.ensures same)
 
 pub returns-clause-kept : goal.returns-clause-kept

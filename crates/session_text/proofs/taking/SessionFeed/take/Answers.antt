@@ -2,7 +2,7 @@
 use Rattle.std.proofs.Common.{ap, ◌∙◌}
 use Rattle.session_text.specs.Taken.{is_full}
 use Rattle.session_text.specs.declared.fault.TextFault.TheVariants.{Json}
-use Rattle.session_text.proofs.NeverJson.{event_text-form}
+use Rattle.session_text.proofs.RowsOne.{event-formed}
 use Rattle.session_text.proofs.TakenTexts.{feed-few, feed-begun, feed-after, takes-header, takes-event, faulty-event}
 use Rattle.session_text.proofs.taking.SessionFeed.take.Goals as goal
 
@@ -24,7 +24,7 @@ invariant_of-self-2 c =
     c.take_event.ensures.made
 
 pub returns-clause-json : goal.returns-clause-json
-returns-clause-json c fault e = event_text-form c.in-Some.head.replicas c.self.inside.made c.args.text.now fault
+returns-clause-json c fault e = event-formed c.in-Some.head.replicas c.self.inside.made c.args.text.now fault
     (c.take_event.ensures.fault (Json fault) e)
 
 pub returns-in-None-clause-taken : goal.returns-in-None-clause-taken
