@@ -17,4 +17,6 @@ mod Ready
 mod Written
 mod PlainStrings
 mod Copying
+mod SimpleValues
+mod ItemRuns
 pub mod CallerLemmas

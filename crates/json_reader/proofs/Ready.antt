@@ -1,5 +1,5 @@
 -- A writer that is ready for the rest behind a value, whose compact text it has written, was ready for the value.
-use Rattle.std.proofs.Common.{get_or, true≢false, ◌≡◌, ne_eqb, ℕ, ◌+◌, List, [], ◌∷◌, ◌++◌, Bool, true, false, eqb, map, flat_map, refl, sym, ap, subst, ◌∙◌, arith, inl, inr, append_assoc, append-nil, encode_utf8, drop, filter, bytes_eq, IsUtf8}
+use Rattle.std.proofs.Common.{get_or, true≢false, ◌≡◌, ne_eqb, ℕ, ◌+◌, ◌-◌, List, [], ◌∷◌, ◌++◌, Bool, true, false, eqb, map, flat_map, refl, sym, ap, subst, ◌∙◌, arith, inl, inr, append_assoc, append-nil, encode_utf8, drop, filter, bytes_eq, IsUtf8}
 use Rattle.std.specs.List.{list_all, AllByRecursion, join_with_byte}
 use Rattle.std.proofs.lemmas.Bool.{false≢true}
 use Rattle.std.proofs.lemmas.Bool.Decides.{nat_tests}
@@ -13,7 +13,7 @@ use Rattle.json_text.specs.Walk.{inside, Quoted}
 use Rattle.json_text.specs.Tree.{Piece, bare, letter, unit, IsPiece, piece_spelling, string_spelling, array, object, Label, unnamed, named, IsLabel, label_spelling, Tree, scalar, text, empty, filled, Values, last, next, spelling, values_spelling, IsGood, AreGood}
 use Rattle.json_reader.specs.inner.Drafts.{Drafted, fresh, grown, pair_text, pairs_text}
 use Rattle.json_reader.specs.inner.Places.{quoted}
-use Rattle.json_reader.specs.inner.Writing.{Writing, between, deed_at, Can, Done, AreAlike, Ready, Deed, Skip, Keep, Slash, Push}
+use Rattle.json_reader.specs.inner.Writing.{Writing, between, deed_at, Can, Done, AreAlike, Ready, Deed, Skip, Keep, Slash, Deepen, Rise, Push}
 use Rattle.json_text.proofs.CallerLemmas.{members-utf8, content-first, is_part_of_literal, list_all-each, literal-plain, regroup-last, regroup-next, plain-bare, quoted-bare, plain-quote, plain-slash, hex-plain, pieces-once, bytes_eq-true, bytes_eq-same, collapsed-names, quote-Quoted}
 use Rattle.json_reader.proofs.Drafting.{IsRow, row_none, row_more, labelled, whole, closed_so}
 use Rattle.json_reader.specs.declared.staying.Ground.TheVariants as ground
@@ -139,6 +139,15 @@ module _ (written : List ℕ) where
       subst (λ c. Takes (x ∷ xs) (between d ds) (between (record d { text = c }) ds)) (append_assoc d.text (x ∷ []) xs)
       (takes-byte Push x xs _ (between (grown d (x ∷ [])) ds) _ (grind (arith, nat_tests)) tt (λ new e. e) refl
       (literals xs (grown d (x ∷ [])) ds (grind arith)))
+
+  empty-array : (d : Drafted) (ds : List Drafted) → Takes (91 ∷ 93 ∷ []) (between d ds)
+      (between (grown d (91 ∷ 93 ∷ [])) ds)
+  empty-array d ds =
+      let opened : Drafted = record (grown d (91 ∷ [])) { level = d.level + 1 } in
+      let shut : between (record (grown opened (93 ∷ [])) { level = opened.level - 1 }) ds
+      ≡ between (grown d (91 ∷ 93 ∷ [])) ds = rw (add-sub_cancel, append_assoc d.text (91 ∷ []) (93 ∷ [])) refl in
+      takes-byte Deepen 91 (93 ∷ []) _ (between opened ds) _ refl tt (λ new e. e) refl
+      (takes-byte Rise 93 [] (between opened ds) _ _ refl tt (λ new e. e ∙ shut) (sym shut) (λ rest. (λ r. r, λ r. r)))
 
   -- ---- strings
   plain-first : (x : ℕ) (xs s : List ℕ) (escaped escapes : Bool) (d : Drafted) (ds : List Drafted) → is_plain x ≡ true
@@ -348,8 +357,11 @@ module _ (written : List ℕ) where
     pub stretch-appended : AreAlike ground.Between (b ∷ xs) → is_space b ≡ false → Is (between d ds) (b ∷ xs ++ more)
         → Is (between (grown d (b ∷ xs)) ds) more
     stretch-appended (inl blank) solid = absurd (false≢true (sym solid ∙ blank.0))
-    stretch-appended (inr (inr (inr word))) solid =
+    stretch-appended (inr (inr (inr (inl word)))) solid =
         (literals (b ∷ xs) d ds (literal-plain (b ∷ xs) (inr word)) more).1
+    stretch-appended (inr (inr (inr (inr nothing)))) solid =
+        λ r. subst (λ t. Is (between (grown d t) ds) more) (sym nothing)
+        ((empty-array d ds more).1 (subst (λ t. Is (between d ds) (t ++ more)) nothing r))
     stretch-appended (inr (inr (inl string))) solid =
         λ r. subst (λ t. Is (between (grown d t) ds) more) (sym string.is)
         (string-passed string.text more d ds (all-pass is_plain is_plain (λ x e. e) string.text string.plain)
@@ -364,8 +376,10 @@ module _ (written : List ℕ) where
         → Is (between d ds) more
     stretch-dropped (inl blank) space =
         (blanks (b ∷ xs) d ds (all-pass is_space is_space (λ x e. e) (b ∷ xs) blank) more).1
-    stretch-dropped (inr (inr (inr word))) space =
+    stretch-dropped (inr (inr (inr (inl word)))) space =
         absurd (let solid = literal-plain (b ∷ xs) (inr word) in grind (arith, nat_tests))
+    stretch-dropped (inr (inr (inr (inr nothing)))) space =
+        absurd (let is : b ≡ 91 = ap (λ t. get_or t 0 0) nothing in grind (arith, nat_tests))
     stretch-dropped (inr (inr (inl string))) space =
         absurd (let is : b ≡ 34 = ap (λ t. get_or t 0 0) string.is in grind (arith, nat_tests))
     stretch-dropped (inr (inl digits)) space = absurd (let digit = digits.0 in grind (arith, nat_tests))

@@ -1,7 +1,7 @@
 //! The brackets that are open.
 
-ghost use Rattle.std.specs.Prelude.{◌≡◌, ◌<◌, nat_le, length, drop, [], ◌∷◌};
-ghost use Rattle.json_reader.specs.inner.Machine.{top};
+ghost use Rattle.std.specs.Prelude.{◌≡◌, ◌<◌, ◌≤◌, nat_le, length, drop, [], ◌∷◌};
+ghost use Rattle.json_reader.specs.inner.Machine.{top, are_square};
 
 use std::marker::Model;
 
@@ -54,6 +54,16 @@ impl Brackets {
         } else {
             Some(Bracket::Curly)
         }
+    }
+
+    /// The two innermost open brackets are square.
+    #[tactic(auto, using(crate::proofs::Digits::kinds_count, crate::proofs::Digits::square_kinds))]
+    #[inline(always)]
+    pub(crate) fn are_square(&self) -> bool
+        ensures square { result ≡ are_square self.now }
+        ensures within { length self.now ≤ 128 }
+    {
+        self.count >= 2 && self.digits % 4 == 0
     }
 
     /// As many are open as may be.

@@ -3,23 +3,26 @@
 //! Its state is a mode and the brackets that are open. It takes no memory and can be kept between
 //! calls.
 
-ghost use Rattle.std.specs.Prelude.{◌≡◌, ◌↔◌, ◌<◌, ◌≤◌, IsTrue, [], true, length, slice_index, IfSome};
+ghost use Rattle.std.specs.Prelude.{◌≡◌, ◌↔◌, ◌<◌, ◌≤◌, IsTrue, [], true, length, slice_index, IfSome, MatchOption};
 ghost use Rattle.json_text.specs.Characters.{is_space, is_hex};
 ghost use Rattle.json_text.specs.Tree.{opening, closing};
 ghost use Rattle.json_text.specs.Value.{extends_number};
-ghost use Rattle.json_reader.specs.inner.Machine.{container_of, first_move, closes_bracket, after_comma, after_string, value_begun, after_move, led_on, tail_led, string_move, first_letter, after_letter, moved, string_fault, bracket_fault, fault_of, top, step, state, ended, HasTaken, Stepped};
+ghost use Rattle.json_reader.specs.inner.Items.{HasPassedItems};
+ghost use Rattle.json_reader.specs.inner.Machine.{container_of, first_move, closes_bracket, after_comma, after_string, value_begun, after_move, led_on, tail_led, string_move, first_letter, after_letter, moved, string_fault, bracket_fault, fault_of, top, step, state, ended, AwaitsComma, AwaitsName, HasTaken, Stepped};
 ghost use Rattle.json_reader.specs.inner.Runs.{is_over};
-ghost use Rattle.json_reader.specs.inner.Writing.{HasPassed};
-ghost use Rattle.json_reader.specs.declared.machine.Mode.TheVariants.{Number, Quoted};
+ghost use Rattle.json_reader.specs.inner.Writing.{HasPassed, StandsAt};
+ghost use Rattle.json_reader.specs.declared.machine.Mode.TheVariants.{Colon, Name, Number, Quoted};
 ghost use Rattle.json_reader.specs.declared.machine.Place.TheVariants.{Plain};
 
 use crate::brackets::{Bracket, Brackets};
 use crate::fault::JsonFault;
+use crate::items::items_end;
 use crate::number::{Part, extends_number, number_end};
 use crate::sequence::Tail;
+use crate::simple::{bare_string_end, simple_end, stands_at};
 use crate::staying::{Ground, stay_end};
 use crate::word::word_end;
-use json_text::{bare_end, is_space};
+use json_text::is_space;
 
 /// What a string is for.
 #[derive(Clone, Copy)]
@@ -167,6 +170,26 @@ impl Machine {
         end
     }
 
+    /// Takes the items that stand whole at an offset, if a value must or may come there in an array
+    /// that is open in another. It gives the offset after them.
+    #[inline(always)]
+    pub(crate) fn pass_items(&mut self, bytes: &[u8], at: usize) -> usize
+        requires { at ≤ length bytes.now }
+        ensures { HasPassedItems bytes.now at result self.old self.new }
+    {
+        let opened = match self.mode {
+            Mode::Value => false,
+            Mode::Fresh => true,
+            _ => return at,
+        };
+        if !self.brackets.are_square() {
+            return at;
+        }
+        let (end, opened) = items_end(bytes, at, opened);
+        self.mode = if opened { Mode::Fresh } else { Mode::Value };
+        end
+    }
+
     /// The part that a number comes to with this byte, if one may begin or go on with it here.
     #[inline(always)]
     fn awaited_part(&self, byte: u8) -> Option<Part>
@@ -205,12 +228,83 @@ impl Machine {
         let (Ground::Between, Some(role)) = (ground, self.awaited_string()) else {
             return at;
         };
-        let end = bare_end(bytes, at + 1);
-        if end == bytes.len() || bytes[end] != b'"' {
+        let Some(end) = bare_string_end(bytes, at) else {
             return at;
-        }
+        };
         self.mode = after_string(role);
-        end + 1
+        end
+    }
+
+    /// Whether the name of a member may begin here, and its value may be an array.
+    #[inline(always)]
+    pub(crate) fn awaits_name(&self) -> bool
+        ensures { IsTrue result → AwaitsName self.now }
+    {
+        match (self.mode, self.brackets.top()) {
+            (Mode::Name | Mode::Fresh, Some(Bracket::Curly)) => !self.brackets.is_full(),
+            _ => false,
+        }
+    }
+
+    /// Takes the name of a member at an offset, if a colon follows it and all its characters are
+    /// ASCII and stand for themselves. It gives the offset of the colon.
+    #[inline(always)]
+    pub(crate) fn pass_name(&mut self, ground: Ground, bytes: &[u8], at: usize) -> Option<usize>
+        requires within { at ≤ length bytes.now }
+        requires awaited { AwaitsName self.old }
+        ensures { MatchOption result (self.new ≡ self.old) (λ colon. StandsAt bytes.now colon 58
+            × HasPassed ground bytes.now at colon self.old self.new
+            × (self.new ≡ record self.old { mode = Colon })) }
+    {
+        let Ground::Between = ground else {
+            return None;
+        };
+        if !stands_at(bytes, at, b'"') {
+            return None;
+        }
+        let colon = bare_string_end(bytes, at)?;
+        if !stands_at(bytes, colon, b':') {
+            return None;
+        }
+        self.mode = Mode::Colon;
+        Some(colon)
+    }
+
+    /// Takes the colon behind a name.
+    #[inline(always)]
+    pub(crate) fn pass_colon(&mut self)
+        ensures { self.new ≡ record self.old { mode = Mode.Value } }
+    {
+        self.mode = Mode::Value;
+    }
+
+    /// Takes the simple value that stands whole at an offset, if a comma follows it, and gives the
+    /// offset of the comma.
+    #[inline(always)]
+    pub(crate) fn pass_simple(&mut self, ground: Ground, bytes: &[u8], at: usize) -> Option<usize>
+        requires within { at ≤ length bytes.now }
+        requires awaited { (self.old.mode ≡ Mode.Value) × (length self.old.brackets < 128) }
+        ensures { MatchOption result (self.new ≡ self.old) (λ comma. StandsAt bytes.now comma 44
+            × HasPassed ground bytes.now at comma self.old self.new
+            × (self.new.brackets ≡ self.old.brackets) × AwaitsComma self.new.mode) }
+    {
+        let Ground::Between = ground else {
+            return None;
+        };
+        let (mode, comma) = simple_end(bytes, at)?;
+        if !stands_at(bytes, comma, b',') {
+            return None;
+        }
+        self.mode = mode;
+        Some(comma)
+    }
+
+    /// Takes the comma behind a member.
+    #[inline(always)]
+    pub(crate) fn pass_comma(&mut self)
+        ensures { self.new ≡ record self.old { mode = Name } }
+    {
+        self.mode = Mode::Name;
     }
 
     /// Takes a word, if a value must come on this ground and the word stands whole at an offset. It

@@ -1,9 +1,9 @@
 //! The literal of a number, byte by byte.
 
-ghost use Rattle.std.specs.Prelude.{◌≡◌, ◌+◌, ◌<◌, ◌≤◌, Some, true, length, slice_index, IsTrue};
+ghost use Rattle.std.specs.Prelude.{◌≡◌, ◌+◌, ◌<◌, ◌≤◌, Some, true, length, slice_index, IfSome, IsTrue};
 ghost use Rattle.json_text.specs.Characters.{is_digit};
 ghost use Rattle.json_text.specs.Value.{extends_number};
-ghost use Rattle.json_reader.specs.inner.Machine.{part_begun, part_after, parts_after, after_whole, after_fraction, is_complete};
+ghost use Rattle.json_reader.specs.inner.Machine.{part_begun, part_after, parts_after, after_whole, after_fraction, is_complete, IsWholeNumber};
 ghost use Rattle.json_reader.specs.inner.Writing.{stretch};
 
 use json_text::digits_end;
@@ -172,4 +172,24 @@ fn begins_fraction(bytes: &[u8], at: usize) -> bool
         × (is_digit (slice_index bytes.now (at + 1)) ≡ true) }
 {
     bytes.len() - at >= 2 && bytes[at] == b'.' && bytes[at + 1].is_ascii_digit()
+}
+
+/// The last part of the number that stands whole at an offset, and the offset after it, if there is
+/// one.
+#[inline(always)]
+pub(crate) fn whole_number_end(bytes: &[u8], at: usize) -> Option<(Part, usize)>
+    requires { at ≤ length bytes.now }
+    ensures { IfSome result (λ found. (at < found.1) × (found.1 ≤ length bytes.now)
+        × IsWholeNumber found.0 (stretch bytes.now at found.1)) }
+{
+    if at == bytes.len() {
+        return None;
+    }
+    let begun = Part::begun(bytes[at])?;
+    let (last, end) = number_end(begun, bytes, at + 1);
+    if last.is_complete() {
+        Some((last, end))
+    } else {
+        None
+    }
 }

@@ -3,9 +3,9 @@
 //! The machine says of each byte whether a value goes on with it, and the writer takes it in the
 //! same pass.
 
-ghost use Rattle.std.specs.Prelude.{◌≡◌, ℕ, ◌<◌, ◌≤◌, List, [], Err, length, drop, slice_index, IfOk};
+ghost use Rattle.std.specs.Prelude.{◌≡◌, ℕ, ◌+◌, ◌<◌, ◌≤◌, List, [], Err, Some, length, drop, slice_index, IfOk, MatchOption, OnOk};
 ghost use Rattle.json_text.specs.Value.{Stands};
-ghost use Rattle.json_reader.specs.inner.Machine.{GoesOn};
+ghost use Rattle.json_reader.specs.inner.Machine.{top, AwaitsName, Curly, GoesOn, Mode};
 ghost use Rattle.json_reader.specs.inner.Runs.{RunsOn};
 ghost use Rattle.json_reader.specs.inner.Writing.{ground_of, stretch, AreAlike, Came, Ends, Fits, HasRead, IsBroken, IsRead, IsReadTo, ReadsOn};
 ghost use Rattle.json_reader.specs.declared.fault.JsonFault.{JsonFault};
@@ -150,12 +150,74 @@ impl Reading {
         ensures { IfOk result (λ end. ReadsOn bytes.now at self.old end self.new) }
     {
         match bytes[at] {
+            b'"' if self.machine.awaits_name() => self.take_members(bytes, at),
             b'"' => self.take_string(bytes, at),
             b',' => self.take_byte(bytes, at, b','),
             b'-'..=b'9' => self.take_number(bytes, at),
             b'f' | b'n' | b't' => self.take_word(bytes, at),
             byte => self.take_byte(bytes, at, byte),
         }
+    }
+
+    /// Takes members with simple values, each with the comma behind it, and the name and the colon
+    /// of one more; a name with other characters than ASCII that stand for themselves it leaves. It
+    /// gives the offset after that.
+    #[inline(always)]
+    fn take_members(&mut self, bytes: &[u8], at: usize) -> Result<usize, AllocError>
+        requires within { at < length bytes.now }
+        requires awaited { AwaitsName self.old.machine }
+        requires read { IsReadTo bytes.now at self.old }
+        ensures { IfOk result (λ end. ReadsOn bytes.now at self.old end self.new) }
+    {
+        let mut next = at;
+        while let Some(value) = self.take_name(bytes, next)? {
+            let Some(end) = self.take_simple(bytes, value)? else {
+                return Ok(value);
+            };
+            next = end;
+        }
+        Ok(next)
+    }
+
+    /// Takes a name and the colon behind it, if all its characters are ASCII and stand for
+    /// themselves, and gives the offset after that.
+    #[inline(always)]
+    fn take_name(&mut self, bytes: &[u8], at: usize) -> Result<Option<usize>, AllocError>
+        requires within { at ≤ length bytes.now }
+        requires awaited { AwaitsName self.old.machine }
+        requires read { IsReadTo bytes.now at self.old }
+        ensures { IfOk result (λ found. MatchOption found (self.new ≡ self.old)
+            (λ end. ReadsOn bytes.now at self.old end self.new
+            × (self.new.machine ≡ record self.old.machine { mode = Mode.Value }))) }
+    {
+        let ground = self.writer.ground();
+        let Some(colon) = self.machine.pass_name(ground, bytes, at) else {
+            return Ok(None);
+        };
+        let next = self.put_all(bytes, at, colon)?;
+        self.machine.pass_colon();
+        Ok(Some(self.put(bytes, next, b':')?))
+    }
+
+    /// Takes the value of a member and the comma behind it, if it is a simple one that stands whole,
+    /// and gives the offset after that.
+    #[inline(always)]
+    fn take_simple(&mut self, bytes: &[u8], at: usize) -> Result<Option<usize>, AllocError>
+        requires within { at ≤ length bytes.now }
+        requires awaited { (self.old.machine.mode ≡ Mode.Value)
+            × (length self.old.machine.brackets < 128)
+            × (top self.old.machine.brackets ≡ Some Curly) }
+        requires read { IsReadTo bytes.now at self.old }
+        ensures { IfOk result (λ found. MatchOption found (self.new ≡ self.old)
+            (λ end. ReadsOn bytes.now at self.old end self.new × AwaitsName self.new.machine)) }
+    {
+        let ground = self.writer.ground();
+        let Some(comma) = self.machine.pass_simple(ground, bytes, at) else {
+            return Ok(None);
+        };
+        let next = self.put_all(bytes, at, comma)?;
+        self.machine.pass_comma();
+        Ok(Some(self.put(bytes, next, b',')?))
     }
 
     /// Takes a whole string in which no character is escaped and all are ASCII, and the colon
@@ -175,15 +237,34 @@ impl Reading {
         self.take_byte(bytes, next, b':')
     }
 
-    /// Takes a number, or what is left of it, and gives the offset after that.
+    /// Takes the items that stand whole at an offset, where some may come, or a number, or what is
+    /// left of it, and gives the offset after that.
     #[inline(always)]
     fn take_number(&mut self, bytes: &[u8], at: usize) -> Result<usize, AllocError>
         requires within { at < length bytes.now }
         requires read { IsReadTo bytes.now at self.old }
         ensures { IfOk result (λ end. ReadsOn bytes.now at self.old end self.new) }
     {
+        let next = self.take_items(bytes, at);
+        if next > at {
+            return Ok(next);
+        }
         let end = self.machine.pass_number(self.writer.ground(), bytes, at);
         self.put_all(bytes, at, end)
+    }
+
+    /// Takes the items that stand whole at an offset, where an array is open in an array, and gives
+    /// the offset after them. All of them is copied later.
+    #[inline(always)]
+    fn take_items(&mut self, bytes: &[u8], at: usize) -> usize
+        requires { IsReadTo bytes.now at self.old }
+        ensures { ReadsOn bytes.now at self.old result self.new }
+    {
+        if self.writer.is_in_arrays() {
+            self.machine.pass_items(bytes, at)
+        } else {
+            at
+        }
     }
 
     /// Takes a whole word, or of one that is cut off the first letter, and gives the offset after
@@ -224,7 +305,8 @@ impl Reading {
         requires byte { slice_index bytes.now at ≡ byte }
         requires read { (before : Machine) × IsReadTo bytes.now at
             (record self.old { machine = before }) × GoesOn before byte self.old.machine }
-        ensures further { IfOk result (λ end. at < end) }
+        ensures end { IfOk result (λ end. end ≡ at + 1) }
+        ensures machine { OnOk result (self.new.machine ≡ self.old.machine) }
         ensures read { IfOk result (λ end. (before : Machine) → GoesOn before byte self.old.machine
             → ReadsOn bytes.now at (record self.old { machine = before }) end self.new) }
     {
@@ -238,7 +320,9 @@ impl Reading {
         requires within { (at ≤ end) × (end ≤ length bytes.now) }
         requires fits { Fits at self.old.writer }
         requires alike { AreAlike (ground_of self.old.writer) (stretch bytes.now at end) }
-        ensures { IfOk result (λ last. (before : Machine)
+        ensures last { IfOk result (λ last. last ≡ end) }
+        ensures machine { OnOk result (self.new.machine ≡ self.old.machine) }
+        ensures read { IfOk result (λ last. (before : Machine)
             → RunsOn before (stretch bytes.now at end) self.old.machine
             → ReadsOn bytes.now at (record self.old { machine = before }) last self.new) }
     {

@@ -7,7 +7,7 @@
 ghost use Rattle.std.specs.Prelude.{◌≡◌, ℕ, ◌+◌, ◌<◌, ◌≤◌, List, [], ◌++◌, true, false, length, slice_index, IfOk, OnOk};
 ghost use Rattle.json_text.specs.Walk.{outside};
 ghost use Rattle.json_reader.specs.inner.Drafts.{fresh, grown};
-ghost use Rattle.json_reader.specs.inner.Writing.{between, deed, stretch, copied, ground_of, writing_at, AreAlike, Can, CanPut, Fits, HasPut, IsBetween, IsPut, Ready};
+ghost use Rattle.json_reader.specs.inner.Writing.{between, deed, stretch, copied, ground_of, is_in_arrays, writing_at, AreAlike, Can, CanPut, Fits, HasPut, IsBetween, IsPut, Ready};
 ghost use Rattle.json_reader.specs.declared.writing.Deed.TheVariants.{Skip, Begin, Finish, Open, Shut, Name, Part, Deepen, Rise, Push};
 
 use crate::draft::Draft;
@@ -125,6 +125,14 @@ impl Writer {
         } else {
             Ground::Between
         }
+    }
+
+    /// An array is open in an array, and no string.
+    #[inline(always)]
+    pub(crate) fn is_in_arrays(&self) -> bool
+        ensures { result ≡ is_in_arrays self.now }
+    {
+        self.here.level() >= 2 && !self.quoted
     }
 
     /// Takes the stretch between two offsets: bytes of a string that are no `"` and no `\`, or

@@ -1,6 +1,6 @@
 -- What each byte does to the machine that reads a value. This project's own, over the grammar of
 -- RFC 8259. Only contracts of private functions cite this.
-use Rattle.std.specs.Prelude.{◌≡◌, ℕ, zero, suc, ◌+◌, ◌-◌, Option, Some, None, List, [], ◌∷◌, length, drop, slice_index, is_none, Bool, true, false, not, ◌&&◌, ◌||◌, ◌==◌, nat_lt, nat_le, if◌then◌else◌, option_and_then}
+use Rattle.std.specs.Prelude.{◌≡◌, ℕ, zero, suc, ◌+◌, ◌-◌, ◌<◌, Option, Some, None, List, [], ◌∷◌, length, drop, slice_index, is_none, Bool, true, false, not, ◌&&◌, ◌||◌, ◌==◌, nat_lt, nat_le, if◌then◌else◌, option_and_then}
 use Rattle.json_text.specs.Characters.{is_space, is_digit, is_hex}
 use Rattle.json_text.specs.Tree.{Container, array, object, closing, letter_meaning}
 use Rattle.json_text.specs.Value.{extends_number}
@@ -62,6 +62,16 @@ is_complete Dot = false
 is_complete Letter = false
 is_complete Sign = false
 is_complete part = true
+
+-- These bytes are a number that may end behind them, with this part.
+pub record IsWholeNumber (last : Part) (number : List ℕ) : Type 0 where
+  pub first : ℕ
+  pub others : List ℕ
+  pub begun : Part
+  pub is : number ≡ first ∷ others
+  pub begins : part_begun first ≡ Some begun
+  pub goes : parts_after begun others ≡ Some last
+  pub ends : is_complete last ≡ true
 
 -- ---- sequences of UTF-8: Unicode, table 3-7
 -- what must come after a byte that begins a sequence of more than one
@@ -237,6 +247,11 @@ abbrev pub top : List Bracket → Option Bracket
 top [] = None
 top (bracket ∷ st) = Some bracket
 
+-- the two innermost open brackets are square
+abbrev pub are_square : List Bracket → Bool
+are_square (Square ∷ Square ∷ st) = true
+are_square st = false
+
 -- what comes of a move, where at most so many brackets may be open
 abbrev pub applied : ℕ → List Bracket → ℕ → Move → Outcome
 applied limit st b (To m) = state m st
@@ -294,3 +309,13 @@ abbrev pub Stepped : Machine → Machine → Progress → ℕ → Type 0
 Stepped old new On b = GoesOn old b new
 Stepped old new Ended b = (step 128 old.mode old.brackets b ≡ ended b) × (new ≡ old)
 Stepped old new Refused b = (step 128 old.mode old.brackets b ≡ refused) × (new ≡ old)
+
+-- An object is open in which the name of a member may begin, and an array may be opened in it.
+pub record AwaitsName (m : Machine) : Type 0 where
+  pub room : length m.brackets < 128
+  pub in_object : top m.brackets ≡ Some Curly
+  pub begins : step 128 m.mode m.brackets 34 ≡ state (Quoted Role.Name Plain) m.brackets
+
+-- a comma may come in this mode, whatever is open
+abbrev pub AwaitsComma : Mode → Type 0
+AwaitsComma m = (bracket : Bracket) → moved m (Some bracket) 44 ≡ To (after_comma bracket)

@@ -1,14 +1,14 @@
 -- What each byte of a value makes of what was written of the value. Only contracts of private
 -- functions cite this. This project's own, over RFC 8259, sections 2 to 7.
-use Rattle.std.specs.Prelude.{◌≡◌, ℕ, ◌+◌, ◌-◌, ◌<◌, ◌≤◌, length, take, drop, slice_get, slice_index, slice_index_or, List, [], ◌∷◌, ◌++◌, Option, None, Some, Bool, true, false, ◌==◌, ◌&&◌, ◌⊎◌, if◌then◌else◌}
+use Rattle.std.specs.Prelude.{◌≡◌, ℕ, ◌+◌, ◌-◌, ◌<◌, ◌≤◌, length, take, drop, slice_get, slice_index, slice_index_or, List, [], ◌∷◌, ◌++◌, Option, None, Some, Bool, true, false, not, nat_le, ◌==◌, ◌&&◌, ◌⊎◌, if◌then◌else◌}
 use Rattle.std.specs.List.{AllByRecursion}
-use Rattle.json_text.specs.Characters.{is_space, is_blank, is_plain, quote}
+use Rattle.json_text.specs.Characters.{is_space, is_blank, is_bare, is_plain, quote}
 use Rattle.json_text.specs.Compact.{compact}
 use Rattle.json_text.specs.Walk.{Place, outside, inside, place_of, Quoted}
 use Rattle.json_text.specs.Tree.{Tree, IsGood, IsWord, spelling}
 use Rattle.json_text.specs.Value.{Stands, extends_number}
 use Rattle.json_reader.specs.inner.Drafts.{Drafted, fresh, grown, named, parted, closed, IsWhole}
-use Rattle.json_reader.specs.inner.Machine.{Bracket, JsonFault, Machine, Mode, state, ended, refused, top, step, fault_of}
+use Rattle.json_reader.specs.inner.Machine.{AwaitsComma, Bracket, JsonFault, Machine, Mode, state, ended, refused, top, step, fault_of}
 use Rattle.json_reader.specs.inner.Runs.{run, start, is_over, IsKept, RunsOn}
 pub use Rattle.json_reader.specs.declared.reader.Reading.{Reading}
 pub use Rattle.json_reader.specs.declared.reader.ValueReader.{ValueReader}
@@ -125,6 +125,10 @@ deed_at w b = deed w.place w.here.level b
 abbrev pub ground_of : Writer → Ground
 ground_of w = if w.quoted then ground.Quoted else ground.Between
 
+-- two arrays are open in the innermost object, and no string
+abbrev pub is_in_arrays : Writer → Bool
+is_in_arrays w = nat_le 2 w.here.level && not w.quoted
+
 -- They are a string in which no character is escaped.
 pub record IsPlainString (bytes : List ℕ) : Type 0 where
   pub text : List ℕ
@@ -135,7 +139,25 @@ pub record IsPlainString (bytes : List ℕ) : Type 0 where
 abbrev pub AreAlike : Ground → List ℕ → Type 0
 AreAlike ground.Quoted bytes = AllByRecursion (λ b. is_plain b ≡ true) bytes
 AreAlike ground.Between bytes = AllByRecursion (λ b. is_space b ≡ true) bytes
-    ⊎ (AllByRecursion (λ b. extends_number b ≡ true) bytes ⊎ (IsPlainString bytes ⊎ IsWord bytes))
+    ⊎ (AllByRecursion (λ b. extends_number b ≡ true) bytes
+    ⊎ (IsPlainString bytes ⊎ (IsWord bytes ⊎ (bytes ≡ 91 ∷ 93 ∷ []))))
+
+-- this byte stands at an offset
+abbrev pub StandsAt : List ℕ → ℕ → ℕ → Type 0
+StandsAt bytes at b = (at < length bytes) × (slice_index bytes at ≡ b)
+
+-- They are a string of ASCII characters that stand for themselves.
+pub record IsBareString (bytes : List ℕ) : Type 0 where
+  pub text : List ℕ
+  pub bare : AllByRecursion (λ b. is_bare b ≡ true) text
+  pub is : bytes ≡ 34 ∷ (text ++ 34 ∷ [])
+
+-- They are a value, behind which the machine is in this mode, and are taken together.
+pub record IsSimple (mode : Mode) (bytes : List ℕ) : Type 0 where
+  pub ran : (st : List Bracket) → length st < 128
+      → run 128 (state Mode.Value st) bytes ≡ state mode st
+  pub ends : AwaitsComma mode
+  pub alike : AreAlike ground.Between bytes
 
 -- the writer with the bytes before an offset copied
 abbrev pub copied : List ℕ → ℕ → Writer → Writer

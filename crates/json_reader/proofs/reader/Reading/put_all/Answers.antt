@@ -1,8 +1,8 @@
 use Rattle.json_reader.proofs.Written.{has_run}
 use Rattle.json_reader.proofs.reader.Reading.put_all.Goals as goal
 
-pub returns : goal.returns
-returns c before ran =
+pub returns-clause-read : goal.returns-clause-read
+returns-clause-read c before ran =
     let put = c.in_ok-put_all.ensures in (
       c.requires.within.0,
       c.requires.within.1,

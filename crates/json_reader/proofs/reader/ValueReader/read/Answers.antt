@@ -10,7 +10,7 @@ loop-next-preserved c =
     let l = c.loop-next in
     let put = c.in_ok-after-in-On.ensures in
     let end = c.in_ok-next-in-On.ensures in (
-      omega (arith, l.invariant.0, put.further, end.0),
+      omega (arith, l.invariant.0, put.end, end.0),
       end.1,
       λ at read. end.2 at ((put.read l.reading.machine c.in-On.ensures).2 at (l.invariant.2 at read)),
     )
