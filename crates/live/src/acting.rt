@@ -11,7 +11,7 @@ ghost use Rattle.live.specs.Living as living;
 ghost use Rattle.live.specs.inner.Acting.{IsActed};
 ghost use Rattle.live.specs.inner.Acting as acting;
 
-use crate::texts::{refusal_text, taken_begun, taken_ended};
+use crate::texts::{taken_begun, taken_ended};
 use board_base::{Bytes, Stop};
 use board_commands::{Capture, Command};
 use delta::VersionFull;
@@ -20,6 +20,7 @@ use elem::{Element, Stamp};
 use history::{Direction, Step};
 use replica::{PlannedStep, Replica};
 use room_msg::update_text;
+use session::refusal_text;
 use std::alloc::{AllocError, Global};
 
 /// Makes a change.

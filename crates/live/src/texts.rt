@@ -7,12 +7,10 @@ ghost use Rattle.elem.specs.Texts.{element_text, truth_text};
 ghost use Rattle.live.specs.Living as living;
 
 use board_base::Bytes;
-use effects::Refusal;
 use elem::{Element, push_element};
 use itoa::Buffer;
 use json_text::push_quoted;
 use scene_json::push_whole;
-use session::push_refusal;
 use std::alloc::{AllocError, Global};
 
 /// The object that has this member alone.
@@ -54,15 +52,6 @@ pub(crate) fn truth_told(alloc: Global, name: &str, truth: bool) -> Result<Bytes
     } else {
         told(alloc, name, b"false")
     }
-}
-
-/// What a refusal is answered with; one without a cause is of nothing to undo or to redo.
-pub(crate) fn refusal_text(alloc: Global, why: Option<Refusal>) -> Result<Bytes, AllocError>
-    ensures { IfOk result (λ text. text ≡ living.refusal_text why) }
-{
-    let mut out = Vec::new(alloc);
-    push_refusal(&mut out, &why)?;
-    Ok(Bytes::from_vec(out))
 }
 
 /// The numbers of entries to undo and to redo.

@@ -16,4 +16,4 @@ mod world;
 
 pub use replaying::replay;
 pub use report::{RefusedEvent, ReplicaReport, Report};
-pub use text::{push_refusal, report_text};
+pub use text::{refusal_text, report_text};

@@ -91,16 +91,16 @@ fn push_event(out: &mut Vec<u8>, event: &RefusedEvent) -> Result<(), AllocError>
     Ok(())
 }
 
-/// Appends the text of a refusal: what it is called, and the name that it holds, or null; where
-/// nothing is given, that there was nothing to undo or to redo. Fails only for want of memory.
-pub fn push_refusal(out: &mut Vec<u8>, why: &Option<Refusal>) -> Result<(), AllocError>
-    ensures { OnOk result
-        (out.new.items ≡ out.old.items ++ object_text (texts.refusal_members why.now)) }
+/// The text of a refusal: what it is called, and the name that it holds, or null; where nothing is
+/// given, that there was nothing to undo or to redo. Fails only for want of memory.
+pub fn refusal_text(alloc: Global, why: Option<Refusal>) -> Result<Bytes, AllocError>
+    ensures { IfOk result (λ text. text ≡ object_text (texts.refusal_members why)) }
 {
+    let mut out = Vec::new(alloc);
     out.push(b'{')?;
-    push_why(out, why)?;
+    push_why(&mut out, &why)?;
     out.push(b'}')?;
-    Ok(())
+    Ok(Bytes::from_vec(out))
 }
 
 /// Appends the members that tell a refusal.
