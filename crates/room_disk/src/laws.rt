@@ -42,8 +42,8 @@ pub fn recovered_is_whole()
 }
 
 /// Whatever first part is left of the records of a run, it is recovered to the opening head and the
-/// store of the opening elements and then of the first messages, of which there are as many as
-/// records are whole behind the first one; or to nothing, where that one isn't whole.
+/// store of the opening elements and then of the first messages, of which there are at least as many
+/// as records are whole behind the first one; or to nothing, where that one isn't whole.
 pub fn first_records_are_recovered()
     ensures { (head : Heading) (stored : List ElementValue) (messages : List (List ElementValue))
         (left lost : List ℕ)
