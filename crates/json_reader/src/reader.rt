@@ -155,13 +155,14 @@ impl Reading {
             b',' => self.take_byte(bytes, at, b','),
             b'-'..=b'9' => self.take_number(bytes, at),
             b'f' | b'n' | b't' => self.take_word(bytes, at),
+            b' ' | b'\n' | b'\r' | b'\t' => self.take_space(bytes, at),
             byte => self.take_byte(bytes, at, byte),
         }
     }
 
     /// Takes members with simple values, each with the comma behind it, and the name and the colon
-    /// of one more; a name with other characters than ASCII that stand for themselves it leaves. It
-    /// gives the offset after that.
+    /// of one more, with the white space behind these; a name with other characters than ASCII that
+    /// stand for themselves it leaves. It gives the offset after that.
     #[inline(always)]
     fn take_members(&mut self, bytes: &[u8], at: usize) -> Result<usize, AllocError>
         requires within { at < length bytes.now }
@@ -170,13 +171,29 @@ impl Reading {
         ensures { IfOk result (λ end. ReadsOn bytes.now at self.old end self.new) }
     {
         let mut next = at;
-        while let Some(value) = self.take_name(bytes, next)? {
-            let Some(end) = self.take_simple(bytes, value)? else {
+        while let Some(colon) = self.take_name(bytes, next)? {
+            let value = self.take_space(bytes, colon)?;
+            let Some(comma) = self.take_simple(bytes, value)? else {
                 return Ok(value);
             };
-            next = end;
+            next = self.take_space(bytes, comma)?;
         }
         Ok(next)
+    }
+
+    /// Takes the white space at an offset, where some may stand, and gives the offset after it.
+    #[inline(always)]
+    fn take_space(&mut self, bytes: &[u8], at: usize) -> Result<usize, AllocError>
+        requires within { at ≤ length bytes.now }
+        requires read { IsReadTo bytes.now at self.old }
+        ensures machine { OnOk result (self.new.machine ≡ self.old.machine) }
+        ensures read { IfOk result (λ end. ReadsOn bytes.now at self.old end self.new) }
+    {
+        if at == bytes.len() || bytes[at] > b' ' {
+            return Ok(at);
+        }
+        let end = self.machine.stay_end(self.writer.ground(), bytes, at);
+        self.put_all(bytes, at, end)
     }
 
     /// Takes a name and the colon behind it, if all its characters are ASCII and stand for
