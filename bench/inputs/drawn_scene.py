@@ -1,7 +1,8 @@
 #!/usr/bin/env python3
 """Writes a scene as people draw it to standard output: strokes of a pen, shapes with labels, arrows between them, texts.
 
-usage: drawn_scene.py ELEMENTS [POINTS] [SEED]   POINTS: how many points a stroke has on average (60)
+usage: drawn_scene.py ELEMENTS [POINTS] [SEED] [--indent]
+POINTS: how many points a stroke has on average (60); --indent: as Excalidraw saves a file, each value on a line of its own
 """
 import json
 import random
@@ -42,8 +43,9 @@ def stroke(rnd, points):
 
 
 def main():
-    count, points = int(sys.argv[1]), int((sys.argv[2:] or ["60"])[0])
-    rnd = random.Random(int((sys.argv[3:] or ["1"])[0]))
+    words = [word for word in sys.argv[1:] if word != "--indent"]
+    count, points = int(words[0]), int((words[1:] or ["60"])[0])
+    rnd = random.Random(int((words[2:] or ["1"])[0]))
     elements, shapes = [], []
     while len(elements) < count:
         i = len(elements)
@@ -71,7 +73,8 @@ def main():
                              "startArrowhead": None, "endArrowhead": "arrow", "elbowed": False})
     scene = {"type": "excalidraw", "version": 2, "source": "https://excalidraw.com", "elements": elements,
              "appState": {"gridSize": 20, "viewBackgroundColor": "#ffffff"}, "files": {}}
-    json.dump(scene, sys.stdout, separators=(",", ":"))
+    how = {"indent": 2} if "--indent" in sys.argv else {"separators": (",", ":")}
+    json.dump(scene, sys.stdout, **how)
     print()
 
 
