@@ -9,10 +9,11 @@ use crate::told::{
 use board_base::{List, Stop};
 use json_reader::scan;
 use json_text::{Member, Raw, Text, first_occurrences, push_quote};
+use members::push_member;
 use restore_table::{default_of, restore};
 use scene_json::{
-    Shape, depth_of, is_null, items, members, pretty, push_comma, push_member, shaped, text_of,
-    texts_of, truth_of, whole_of,
+    Shape, depth_of, is_null, items, members, pretty, push_comma, shaped, text_of, texts_of,
+    truth_of, whole_of,
 };
 use std::alloc::{AllocError, Global};
 

@@ -10,7 +10,7 @@ ghost use Rattle.copies.specs.Copies.{copied_end, copied_entries, copied_entry, 
 use crate::ids::ids_of;
 use board_base::List;
 use elem::{Binding, BoundRef, Element};
-use json_text::{Member, Text};
+use json_text::Text;
 use std::alloc::{AllocError, Global};
 use std::collections::BTreeSet;
 
@@ -107,7 +107,7 @@ fn copied_end(
     match binding {
         Some(binding) if ids.contains(&binding.target) => Ok(Some(Binding {
             target: prefixed(alloc, prefix, &binding.target)?,
-            rest: binding.rest.try_clone_with(Member::try_clone)?,
+            rest: binding.rest.try_clone()?,
         })),
         _ => Ok(None),
     }

@@ -136,7 +136,7 @@ fn set_member(
     ensures element { OnOk result (IsElement e.new) }
 {
     let none = SharedMembers::new(alloc, List::new(alloc))?;
-    let mut rest = mem::replace(&mut e.rest, none).into_list()?.into_vec();
+    let mut rest = mem::replace(&mut e.rest, none).into_list(alloc)?.into_vec();
     put_value(&mut rest, name, value)?;
     e.rest = SharedMembers::new(alloc, List::from_vec(rest))?;
     Ok(())

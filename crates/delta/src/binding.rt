@@ -14,7 +14,7 @@ ghost use Rattle.delta.specs.Headers.{value_named};
 
 use crate::rest::{find_value, put_value};
 use board_base::{List, Stop};
-use elem::Binding;
+use elem::{Binding, SharedMembers};
 use json_text::{Member, Raw, Text};
 use scene_json::{is_null, members, raw_null, raw_object, raw_text, text_of};
 use std::alloc::{AllocError, Global};
@@ -28,7 +28,7 @@ pub(crate) fn binding_raw(alloc: Global, binding: &Option<Binding>) -> Result<Ra
     let Some(binding) = binding else {
         return raw_null(alloc);
     };
-    let mut members = binding.rest.try_clone_with(Member::try_clone)?.into_vec();
+    let mut members = binding.rest.to_list(alloc)?.into_vec();
     let name = Text::from_str(alloc, "elementId")?;
     let target = raw_text(alloc, &binding.target)?;
     put_value(&mut members, &name, Some(target))?;
@@ -49,9 +49,10 @@ pub(crate) fn binding_of(alloc: Global, value: &Raw) -> Result<Option<Binding>, 
     let name = Text::from_str(alloc, "elementId")?;
     let target = target_in(alloc, &rest, &name)?;
     put_value(&mut rest, &name, None)?;
+    let further = SharedMembers::new(alloc, List::from_vec(rest))?;
     Ok(Some(Binding {
         target,
-        rest: List::from_vec(rest),
+        rest: further,
     }))
 }
 

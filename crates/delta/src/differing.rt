@@ -17,7 +17,6 @@ use crate::change::Change;
 use crate::header::{header_named, header_raw};
 use crate::join::are_same;
 use crate::part::Part;
-use crate::rest::find_value;
 use board_base::List;
 use elem::{BoundRef, Element, SharedMembers};
 use json_text::{Raw, Text};
@@ -167,7 +166,8 @@ fn note_rest(
     ensures { (known : Items (Items ℕ)) → AreChangesOf old.now new.now known changes.old.items
         → OnOk result (AreChangesOf old.now new.now (known ++ names rest.now) changes.new.items) }
 {
-    for member in rest.as_slice() {
+    let list = rest.to_list(alloc)?;
+    for member in list.as_slice() {
         note(alloc, changes, old, new, &member.name)?;
     }
     Ok(())
@@ -233,13 +233,15 @@ fn scalar_raw(alloc: Global, e: &Element, name: &Text) -> Result<Option<Raw>, Al
 
 /// The value of the member of this name, if there is one.
 fn rest_raw(rest: &SharedMembers, name: &Text) -> Result<Option<Raw>, AllocError>
-    requires { are_rising (names rest.now) ≡ true }
     ensures { IfOk result (λ value. value ≡ value_named name.now rest.now) }
 {
-    match find_value(rest.as_slice(), name) {
-        Some(value) => Ok(Some(value.try_clone()?)),
-        None => Ok(None),
+    let members = rest.as_members();
+    for at in 0..members.len() {
+        if name.as_bytes() == members.name(at) {
+            return Ok(Some(members.to_value(at)?));
+        }
     }
+    Ok(None)
 }
 
 /// Puts the change, if there is one, where the name of its member belongs.

@@ -26,7 +26,7 @@ use crate::lookup::Lookup;
 use crate::placing::{Keys, key_at, rekeyed_keys};
 use board_base::List;
 use board_commands::{Command, Side, Spot};
-use elem::{Binding, BoundRef, Element, Role};
+use elem::{Binding, BoundRef, Element, Role, SharedMembers};
 use elem_store::Store;
 use frac_keys::Key;
 use json_text::{Member, Raw, Text};
@@ -57,7 +57,7 @@ pub(crate) fn prepared(
             side,
             target,
             rest,
-        } => bind(store, arrow, *side, target, rest),
+        } => bind(alloc, store, arrow, *side, target, rest),
         Command::Unbind { arrow, side } => unbind(store, arrow, *side),
         Command::Label { container, text } => label(store, container, text),
         Command::Unlabel { text } => unlabel(store, text),
@@ -232,6 +232,7 @@ fn key_of(e: &Element) -> Result<Option<Key>, AllocError>
 
 /// The effect of binding an end of an arrow.
 fn bind(
+    alloc: Global,
     store: &Store,
     arrow: &Text,
     side: Side,
@@ -243,9 +244,10 @@ fn bind(
         → Prepares store.now.elements view
         (commands.Bind arrow.now side target.now rest.now) made) }
 {
+    let list = rest.try_clone_with(Member::try_clone)?;
     let binding = Binding {
         target: target.try_clone()?,
-        rest: rest.try_clone_with(Member::try_clone)?,
+        rest: SharedMembers::new(alloc, list)?,
     };
     link(store, arrow, side, Some(binding))
 }

@@ -53,7 +53,7 @@ pub(crate) fn with_member(
     ensures { IfOk result (λ new. new ≡ with_set_member name.now value.now e.now) }
 {
     let value = given_value(alloc, name, value)?;
-    let mut members = e.rest.to_list()?.into_vec();
+    let mut members = e.rest.to_list(alloc)?.into_vec();
     put_value(&mut members, name, value)?;
     let rest = SharedMembers::new(alloc, List::from_vec(members))?;
     let mut changed = e.try_clone()?;

@@ -1,7 +1,6 @@
 -- What is left of a text whose pieces are read one after the other.
-use Rattle.std.proofs.Common.{◌≡◌, ℕ, Bool, true, false, if◌then◌else◌, List, [], ◌∷◌, ◌++◌, Some, map, codes, inl, inr, refl, sym, ap, ◌∙◌, append_assoc}
+use Rattle.std.proofs.Common.{◌≡◌, ℕ, Bool, true, false, if◌then◌else◌, List, [], ◌∷◌, ◌++◌, Some, map, codes, refl, sym, ap, ◌∙◌, append_assoc}
 use Rattle.std.specs.List.{join_with_byte}
-use Rattle.std.proofs.lemmas.Bool.{cases_Bool}
 use Rattle.json_text.specs.Characters.{quote}
 use Rattle.json_text.specs.Compact.{Member as Pair, member_text, array_text, object_text}
 use Rattle.json_text.specs.Members.{pair_of}
@@ -11,9 +10,10 @@ use Rattle.elem.specs.declared.parts.Binding.{Binding}
 use Rattle.elem.specs.ElementValue.{ElementValue}
 use Rattle.elem.specs.Facts.{IsElement, IsBinding}
 use Rattle.elem.specs.inner.Left.{list_left, object_left, Splits}
-use Rattle.elem.specs.inner.Printing.{members_below, members_not_below, merged, header_pair, headers_of}
+use Rattle.elem.specs.inner.Printing.{members_below, merged, header_pair, headers_of}
 use Rattle.elem.specs.Texts.{binding_text, element_text}
 use Rattle.elem.proofs.Headers.{merged-element, merged-binding}
+use Rattle.elem.proofs.Merging.{none_below}
 
 -- ---- lists
 items_left : (start close : ℕ) (item : List ℕ) (items : List (List ℕ))
@@ -43,16 +43,9 @@ pub merged-below : (h : Pair) (hs : List Pair) (m : Member) (ms : List Member) �
 merged-below h hs m ms below = rw below refl
 
 -- no other comes before a header member
-back_all : (name : List ℕ) (ms : List Member) → members_below name ms ≡ [] → members_not_below name ms ≡ ms
-back_all name [] none = refl
-back_all name (m ∷ ms) none = elim (cases_Bool (bytes_less m.name name)) [
-  | inl e ↦ absurd (let some : m ∷ members_below name ms ≡ [] = rw e at none in cc)
-  | inr e ↦ rw e refl
-]
-
 pub merged-header : (h : Pair) (hs : List Pair) (ms : List Member) → members_below h.0 ms ≡ []
     → merged (h ∷ hs) ms ≡ h ∷ merged hs ms
-merged-header h hs ms none = rw (none, back_all h.0 ms none) refl
+merged-header h hs ms none = rw (none, none_below h.0 ms none) refl
 
 -- ---- the whole texts
 pub binding_left : (binding : Binding) → IsBinding binding

@@ -1,10 +1,10 @@
 -- Members that are written one after another, those of two rising lists in the order of their names.
-use Rattle.std.proofs.Common.{◌≡◌, ◌≢◌, ℕ, ◌+◌, ◌<◌, true, false, eqb, if◌then◌else◌, List, [], ◌∷◌, ◌++◌, All, length, get_or, take, map, bytes_eq, inl, inr, refl, sym, ap, ◌∙◌, subst, arith, append-nil, append_assoc}
+use Rattle.std.proofs.Common.{◌≡◌, ◌≢◌, ℕ, ◌+◌, ◌<◌, true, false, eqb, if◌then◌else◌, List, [], ◌∷◌, ◌++◌, All, length, map, bytes_eq, inl, inr, refl, sym, ap, ◌∙◌, subst, arith, append-nil, append_assoc}
 use Rattle.std.specs.List.{AllByRecursion, IsDistinct, join_with_byte}
 use Rattle.std.specs.List.Sorted.{IsPermutation}
 use Rattle.std.specs.Str.{IsUtf8}
 use Rattle.std.proofs.lemmas.Bool.{cases_Bool, eq-eqb, ne_eqb}
-use Rattle.std.proofs.lemmas.List.{map-append, length-append, take_more}
+use Rattle.std.proofs.lemmas.List.{map-append, length-append}
 use Rattle.std.proofs.lemmas.List.Elements.{All-nil, All-cons, All-append, All-from_recursion, recursion_from_All}
 use Rattle.std.proofs.lemmas.List.Sorted.{All-permutation, IsPermutation-refl, IsPermutation-sym, IsPermutation-cons, IsPermutation-trans, IsPermutation-middle, IsPermutation-append_comm, IsPermutation-append_left, IsPermutation-append_right}
 use Rattle.json_text.specs.Appending.{Extends}
@@ -19,7 +19,7 @@ use Rattle.frac_keys.proofs.CallerLemmas.{bytes_less-trans, bytes_less-turned}
 use Rattle.scene_json.proofs.CallerLemmas.{distinct_moved}
 use Rattle.elem.specs.inner.Printing.{opened, IsBegun, mark, members_below, members_not_below, merged, AreSound}
 use Rattle.elem.specs.Texts.{sorted_members}
-use Rattle.elem.proofs.Appending.{extends_same, extends_by, extends_then}
+use Rattle.elem.proofs.Appending.{extends_same, extends_then}
 use Rattle.elem.proofs.Distinct.{IsDistinct-rising, AllByRecursion-append}
 use Rattle.elem.proofs.Sorting.{IsRising, IsRising-sorted, IsPermutation-sorted, AllByRecursion-weaker, same_rising}
 
@@ -58,14 +58,6 @@ begun-step before ms name value start out begun done at is first last =
     (last ∙ ap (λ b. b ++ value) first ∙ append_assoc marked (quote name ++ 58 ∷ []) value
     ∙ ap (λ t. marked ++ t) (append_assoc (quote name) (58 ∷ []) value))
 
--- one more member of a list
-pub members-more : (ms : List Member) (m : Member) (i : ℕ) → i < length ms → m ≡ get_or ms i m → (first : List Pair)
-    → (first ++ pairs (take i ms)) ++ pair_of m ∷ [] ≡ first ++ pairs (take (i + 1) ms)
-members-more ms m i l at first =
-    append_assoc first (pairs (take i ms)) (pair_of m ∷ [])
-    ∙ ap (λ ps. first ++ ps) (ap (λ (n : Member). pairs (take i ms) ++ pair_of n ∷ []) at
-    ∙ sym (map-append pair_of (take i ms) (get_or ms i m ∷ [])) ∙ ap pairs (sym (take_more ms i m l)))
-
 -- the closing bracket
 pub closed : (before : List ℕ) (ms : List Pair) (out done : List ℕ) → 0 < length ms → IsBegun before ms out
     → done ≡ out ++ 125 ∷ [] → done ≡ before ++ object_text ms
@@ -74,55 +66,101 @@ closed before [] out done some is last = absurd (omega arith)
 closed before (m ∷ ms) out done some is last =
     last ∙ ap (λ o. o ++ 125 ∷ []) is ∙ append_assoc before (opened (m ∷ ms)) (125 ∷ [])
 
+-- ---- members that are kept
+-- Between two states of the bytes, these members are appended to an object that begins at an offset.
+pub record Appended (start : ℕ) (old out : List ℕ) (done : List Member) : Type 0 where
+  pub begun : (before : List ℕ) (first : List Pair) → start ≡ length before → IsBegun before first old
+      → IsBegun before (first ++ pairs done) out
+  pub named : All (λ (m : Member). IsUtf8 m.name) done
+  pub kept : Extends old out
+
+appended-none : (start : ℕ) (out : List ℕ) → Appended start out out []
+appended-none start out = record {
+  begun = λ before first at is. subst (λ ms. IsBegun before ms out) (sym (append-nil first)) is;
+  named = All-nil (λ (m : Member). IsUtf8 m.name);
+  kept = extends_same out out refl;
+}
+
+-- One more member is appended.
+abbrev pub Adds : ℕ → List ℕ → List ℕ → Member → Type 0
+Adds start out more m = (before : List ℕ) (first : List Pair) → start ≡ length before → IsBegun before first out
+    → IsBegun before (first ++ pair_of m ∷ []) more
+
+appended-more : (start : ℕ) (old out more : List ℕ) (done : List Member) (m : Member) → Appended start old out done
+    → IsUtf8 m.name → Adds start out more m → Extends out more → Appended start old more (done ++ m ∷ [])
+appended-more start old out more done m so_far utf8 adds grown = record {
+  begun = λ before ms at is.
+      subst (λ ps. IsBegun before ps more) (append_assoc ms (pairs done) (pair_of m ∷ [])
+      ∙ ap (λ ps. ms ++ ps) (sym (map-append pair_of done (m ∷ []))))
+      (adds before (ms ++ pairs done) at (so_far.begun before ms at is));
+  named = All-append (λ (m : Member). IsUtf8 m.name) done (m ∷ []) so_far.named
+      (All-cons (λ (m : Member). IsUtf8 m.name) m [] utf8 (All-nil (λ (m : Member). IsUtf8 m.name)));
+  kept = extends_then old out more so_far.kept grown;
+}
+
+-- Of these members the first ones are appended, and the others are left.
+pub record Parted (start : ℕ) (old out : List ℕ) (members left : List Member) : Type 0 where
+  pub done : List Member
+  pub are : Appended start old out done
+  pub all : done ++ left ≡ members
+
+pub parted-none : (start : ℕ) (out : List ℕ) (members : List Member) → Parted start out out members members
+parted-none start out members = record { done = []; are = appended-none start out; all = refl }
+
+pub parted-more : (start : ℕ) (old out more : List ℕ) (members others : List Member) (m : Member)
+    → Parted start old out members (m ∷ others) → IsUtf8 m.name → Adds start out more m → Extends out more
+    → Parted start old more members others
+parted-more start old out more members others m so_far utf8 adds grown = record {
+  done = so_far.done ++ m ∷ [];
+  are = appended-more start old out more so_far.done m so_far.are utf8 adds grown;
+  all = append_assoc so_far.done (m ∷ []) others ∙ so_far.all;
+}
+
+-- where none is left
+pub parted-all : (start : ℕ) (old out : List ℕ) (members left : List Member) → Parted start old out members left
+    → left ≡ [] → Appended start old out members
+parted-all start old out members left so_far none =
+    subst (Appended start old out) (sym (append-nil so_far.done) ∙ ap (λ ms. so_far.done ++ ms) (sym none)
+    ∙ so_far.all) so_far.are
+
 -- ---- the members below a name, and the others
 -- Of these members the first ones, whose names are less, are appended, and the others are left.
 pub record Passed (name : List ℕ) (start : ℕ) (old out : List ℕ) (members left : List Member) : Type 0 where
   pub done : List Member
   pub below : done ++ members_below name left ≡ members_below name members
   pub behind : members_not_below name left ≡ members_not_below name members
-  pub begun : (before : List ℕ) (first : List Pair) → start ≡ length before → IsBegun before first old
-      → IsBegun before (first ++ pairs done) out
-  pub named : All (λ (m : Member). IsUtf8 m.name) done
-  pub kept : Extends old out
+  pub are : Appended start old out done
 
 pub passed-none : (name : List ℕ) (start : ℕ) (out : List ℕ) (members : List Member)
     → Passed name start out out members members
-passed-none name start out members = record {
-  done = [];
-  below = refl;
-  behind = refl;
-  begun = λ before first at is. subst (λ ms. IsBegun before ms out) (sym (append-nil first)) is;
-  named = All-nil (λ (m : Member). IsUtf8 m.name);
-  kept = extends_same out out refl;
-}
+passed-none name start out members =
+    record { done = []; below = refl; behind = refl; are = appended-none start out }
 
 -- one more of them
-pub passed-more : (name : List ℕ) (start : ℕ) (old out marked more : List ℕ) (members others : List Member) (m : Member)
+pub passed-more : (name : List ℕ) (start : ℕ) (old out more : List ℕ) (members others : List Member) (m : Member)
     → Passed name start old out members (m ∷ others) → bytes_less m.name name ≡ true → IsUtf8 m.name
-    → marked ≡ out ++ mark start out ∷ [] → more ≡ marked ++ member_text (pair_of m)
-    → Passed name start old more members others
-passed-more name start old out marked more members others m so_far less utf8 first last = record {
+    → Adds start out more m → Extends out more → Passed name start old more members others
+passed-more name start old out more members others m so_far less utf8 adds grown = record {
   done = so_far.done ++ m ∷ [];
   below = append_assoc so_far.done (m ∷ []) (members_below name others) ∙ rw less at so_far.below;
   behind = rw less at so_far.behind;
-  begun = λ before ms at is.
-      subst (λ ps. IsBegun before ps more) (append_assoc ms (pairs so_far.done) (pair_of m ∷ [])
-      ∙ ap (λ ps. ms ++ ps) (sym (map-append pair_of so_far.done (m ∷ []))))
-      (opened-step before (ms ++ pairs so_far.done) (pair_of m) start out more at (so_far.begun before ms at is) (last
-      ∙ ap (λ o. o ++ member_text (pair_of m)) first));
-  named = All-append (λ (m : Member). IsUtf8 m.name) so_far.done (m ∷ []) so_far.named
-      (All-cons (λ (m : Member). IsUtf8 m.name) m [] utf8 (All-nil (λ (m : Member). IsUtf8 m.name)));
-  kept = extends_then old out more so_far.kept (extends_then out marked more (extends_by out marked _ first)
-      (extends_by marked more _ last));
+  are = appended-more start old out more so_far.done m so_far.are utf8 adds grown;
 }
 
 -- where none of the others is below
-pub passed-named : (name : List ℕ) (start : ℕ) (old out : List ℕ) (members left : List Member)
+pub passed-all : (name : List ℕ) (start : ℕ) (old out : List ℕ) (members left : List Member)
     → Passed name start old out members left → members_below name left ≡ []
-    → All (λ (m : Member). IsUtf8 m.name) (members_below name members)
-passed-named name start old out members left so_far none =
-    subst (All (λ (m : Member). IsUtf8 m.name)) (sym (append-nil so_far.done) ∙ ap (λ ms. so_far.done ++ ms) (sym none)
-    ∙ so_far.below) so_far.named
+    → Appended start old out (members_below name members)
+passed-all name start old out members left so_far none =
+    subst (Appended start old out) (sym (append-nil so_far.done) ∙ ap (λ ms. so_far.done ++ ms) (sym none)
+    ∙ so_far.below) so_far.are
+
+pub none_below : (name : List ℕ) (ms : List Member) → members_below name ms ≡ [] → members_not_below name ms ≡ ms
+none_below name [] none = refl
+none_below name (m ∷ ms) none = elim (cases_Bool (bytes_less m.name name)) [
+  | inl e ↦ absurd (let some : m ∷ members_below name ms ≡ [] = rw e at none in cc)
+  | inr e ↦ rw e refl
+]
 
 members_below-members_not_below : (name : List ℕ) (ms : List Member)
     → pairs (members_below name ms) ++ pairs (members_not_below name ms) ≡ pairs ms

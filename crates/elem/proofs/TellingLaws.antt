@@ -1,5 +1,5 @@
 -- What a walk over a list tells of each item.
-use Rattle.std.proofs.Common.{◌≡◌, ℕ, ◌+◌, ◌<◌, List, [], ◌∷◌, ◌++◌, length, take, get_or, refl, sym, ap, ◌∙◌, subst, codes}
+use Rattle.std.proofs.Common.{◌≡◌, ℕ, ◌+◌, ◌<◌, List, [], ◌∷◌, length, take, get_or, refl, sym, subst, codes}
 use Rattle.std.specs.List.{AllByRecursion}
 use Rattle.std.proofs.lemmas.List.{take_more}
 use Rattle.elem.proofs.Distinct.{AllByRecursion-append}
@@ -12,11 +12,15 @@ use Rattle.elem.specs.declared.kind.Kind.TheVariants as kinds
 use Rattle.elem.specs.Texts.{kind_name}
 
 -- one more item
+pub each-nth : {X : Type 0} (P : X → Type 0) (xs : List X) (i : ℕ) (d : X) → i < length xs
+    → AllByRecursion P (take i xs) → P (get_or xs i d) → AllByRecursion P (take (i + 1) xs)
+each-nth P xs i d within all own =
+    subst (AllByRecursion P) (sym (take_more xs i d within))
+    (AllByRecursion-append P (take i xs) (get_or xs i d ∷ []) all (own, tt))
+
 pub each-more : {X : Type 0} (P : X → Type 0) (xs : List X) (i : ℕ) (x : X) → x ≡ get_or xs i x → i < length xs
     → AllByRecursion P (take i xs) → P x → AllByRecursion P (take (i + 1) xs)
-each-more P xs i x here within all own =
-    subst (AllByRecursion P) (sym (take_more xs i x within ∙ ap (λ y. take i xs ++ y ∷ []) (sym here)))
-    (AllByRecursion-append P (take i xs) (x ∷ []) all (own, tt))
+each-more P xs i x here within all own = each-nth P xs i x within all (subst P here own)
 
 -- members and their names
 pub names-each : (P : List ℕ → Type 0) (members : List Member)

@@ -1,13 +1,15 @@
 //! Telling parts of elements apart, without memory.
 
-ghost use Rattle.std.specs.Prelude.{◌≡◌, ◌↔◌, IsTrue};
+ghost use Rattle.std.specs.Prelude.{◌≡◌, ◌↔◌, ◌<◌, length, IsTrue};
+ghost use Rattle.members.specs.Standing.{nth};
 
 use crate::kind::{Kind, Role};
-use crate::members::SharedMembers;
 use crate::parts::{Binding, BoundRef};
+use crate::shared_members::SharedMembers;
 use board_base::List;
 use frac_keys::Key;
-use json_text::{Member, Raw, Text};
+use json_text::{Raw, Text};
+use members::Members;
 
 /// Values that can be told apart without memory.
 pub(crate) trait Same {
@@ -34,16 +36,32 @@ impl Same for Key {
     }
 }
 
-impl Same for Member {
-    fn same(&self, other: &Member) -> bool {
-        self.name.same(&other.name) && self.value.same(&other.value)
+impl Same for SharedMembers {
+    fn same(&self, other: &SharedMembers) -> bool {
+        let (members, others) = (self.as_members(), other.as_members());
+        members.len() == others.len() && same_members(members, others)
     }
 }
 
-impl Same for SharedMembers {
-    fn same(&self, other: &SharedMembers) -> bool {
-        self.as_list().same(other.as_list())
+/// Whether members are equal to as many others.
+fn same_members(members: &Members, others: &Members) -> bool
+    requires { length members.now ≡ length others.now }
+    ensures { IsTrue result ↔ (members.now ≡ others.now) }
+{
+    for at in 0..members.len() {
+        if !same_at(members, others, at) {
+            return false;
+        }
     }
+    true
+}
+
+/// Whether the members at an index are equal.
+fn same_at(members: &Members, others: &Members, at: usize) -> bool
+    requires { (at < length members.now) × (at < length others.now) }
+    ensures { IsTrue result ↔ (nth members.now at ≡ nth others.now at) }
+{
+    members.name(at) == others.name(at) && members.value(at) == others.value(at)
 }
 
 impl Same for BoundRef {

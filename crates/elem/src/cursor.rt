@@ -1,6 +1,6 @@
 //! The bytes of an element's text, one after the other, without memory.
 
-ghost use Rattle.std.specs.Prelude.{◌≡◌, [], ◌∷◌, ◌++◌, MatchOption, if◌then◌else◌};
+ghost use Rattle.std.specs.Prelude.{◌≡◌, [], ◌∷◌, ◌++◌, drop, MatchOption, if◌then◌else◌};
 ghost use Rattle.json_text.specs.Compact.{member_text};
 ghost use Rattle.elem.specs.declared.source.Source.{Source};
 ghost use Rattle.elem.specs.inner.Left.{value_left, open_left, members_left, IsElementSource, Splits};
@@ -9,10 +9,11 @@ ghost use Rattle.elem.specs.Texts.{element_text};
 
 use crate::element::Element;
 use crate::header::{Header, headers_of};
+use crate::object::next_below;
 use crate::piece::TextPiece;
 use crate::source::Source;
-use crate::value::{Value, first_below, member_piece, object_end, object_mark, value_of};
-use json_text::Member;
+use crate::value::{Value, member_piece, object_end, object_mark, value_of};
+use members::Members;
 use std::marker::Model;
 
 /// What is left of an element's text: of a piece of it, of the value that the piece belongs to, and
@@ -22,14 +23,14 @@ pub(crate) struct Cursor<'a> {
     source: Source<'a>,
     piece: TextPiece<'a>,
     value: Value<'a>,
-    members: Members<'a>,
+    members: Left<'a>,
 }
 
-/// The members of an element that are left: header members, and others, until the object is closed.
-/// The truth tells that none was read.
+/// The members of an element that are left: header members, and others from an index on, until the
+/// object is closed. The truth tells that none was read.
 #[derive(Clone, Copy)]
-pub(crate) enum Members<'a> {
-    Open(bool, &'static [Header], &'a [Member]),
+pub(crate) enum Left<'a> {
+    Open(bool, &'static [Header], &'a Members, usize),
     Closed,
 }
 
@@ -80,24 +81,24 @@ impl<'a> Cursor<'a> {
 }
 
 /// All members of an element.
-fn members_of(e: &Element) -> Members<'_>
+fn members_of(e: &Element) -> Left<'_>
     ensures { (source : Source) → source.e.now ≡ e.now
         → members_left source result ≡ element_text e.now }
 {
-    Members::Open(true, headers_of(&e.kind), e.rest.as_slice())
+    Left::Open(true, headers_of(&e.kind), e.rest.as_members(), 0)
 }
 
-impl<'a> Members<'a> {
+impl<'a> Left<'a> {
     /// A piece of the next member, what is left of its value, and the further members.
-    fn next(self, source: Source<'a>) -> Option<(TextPiece<'a>, Value<'a>, Members<'a>)>
+    fn next(self, source: Source<'a>) -> Option<(TextPiece<'a>, Value<'a>, Left<'a>)>
         requires { IsElementSource source }
         ensures { MatchOption result (members_left source.entry self.entry ≡ [])
             (λ next. Splits (members_left source.entry self.entry) next.0
             (value_left next.1 ++ members_left source.entry next.2)) }
     {
         match self {
-            Members::Open(first, headers, rest) => Some(next_of(source, first, headers, rest)),
-            Members::Closed => None,
+            Left::Open(first, headers, rest, at) => Some(next_of(source, first, headers, rest, at)),
+            Left::Closed => None,
         }
     }
 }
@@ -107,42 +108,47 @@ fn next_of<'a>(
     source: Source<'a>,
     first: bool,
     headers: &'static [Header],
-    rest: &'a [Member],
-) -> (TextPiece<'a>, Value<'a>, Members<'a>)
+    rest: &'a Members,
+    at: usize,
+) -> (TextPiece<'a>, Value<'a>, Left<'a>)
     requires { IsElementSource source }
-    ensures { Splits (open_left source.entry first headers.now rest.now) result.0
+    ensures { Splits (open_left source.entry first headers.now (drop at rest.now)) result.0
         (value_left result.1 ++ members_left source.entry result.2) }
 {
     match headers.split_first() {
-        None => next_kept(first, rest),
-        Some((header, others)) => match first_below(rest, header.name()) {
-            Some((member, rest)) => {
-                let piece = member_piece(first, member);
-                (piece, Value::Nothing, Members::Open(false, headers, rest))
+        None => next_kept(first, rest, at),
+        Some((header, others)) => match next_below(rest, at, header.name()) {
+            Some(next) => {
+                let piece = member_piece(first, rest, at);
+                (
+                    piece,
+                    Value::Nothing,
+                    Left::Open(false, headers, rest, next),
+                )
             }
             None => {
                 let (piece, value) = header_piece(source, first, *header);
-                (piece, value, Members::Open(false, others, rest))
+                (piece, value, Left::Open(false, others, rest, at))
             }
         },
     }
 }
 
 /// The next member behind all header members, or the end.
-fn next_kept<'a>(first: bool, rest: &'a [Member]) -> (TextPiece<'a>, Value<'a>, Members<'a>)
-    ensures { (source : Source) → Splits (open_left source first [] rest.now) result.0
+fn next_kept<'a>(first: bool, rest: &'a Members, at: usize) -> (TextPiece<'a>, Value<'a>, Left<'a>)
+    ensures { (source : Source) → Splits (open_left source first [] (drop at rest.now)) result.0
         (value_left result.1 ++ members_left source result.2) }
 {
-    match rest.split_first() {
-        None => (
+    match at < rest.len() {
+        true => (
+            member_piece(first, rest, at),
+            Value::Nothing,
+            Left::Open(false, &[], rest, at + 1),
+        ),
+        false => (
             TextPiece::plain(object_end(first)),
             Value::Nothing,
-            Members::Closed,
-        ),
-        Some((member, rest)) => (
-            member_piece(first, member),
-            Value::Nothing,
-            Members::Open(false, &[], rest),
+            Left::Closed,
         ),
     }
 }

@@ -3,8 +3,8 @@
 ghost use Rattle.std.specs.Prelude.{◌≡◌, IfOk};
 
 use crate::kind::Kind;
-use crate::members::SharedMembers;
 use crate::parts::{Binding, BoundRef};
+use crate::shared_members::SharedMembers;
 use board_base::List;
 use frac_keys::Key;
 use json_text::Text;

@@ -1,74 +1,111 @@
 //! Objects whose members are appended one after another.
 
-ghost use Rattle.std.specs.Prelude.{◌≡◌, ℕ, List as Items, [], ◌∷◌, ◌++◌, IfOk, OnOk, OnErr, All, length};
+ghost use Rattle.std.specs.Prelude.{◌≡◌, ℕ, List as Items, [], ◌∷◌, ◌++◌, ◌<◌, IfOk, OnOk, OnErr, MatchOption, IfSome, All, length, drop, true};
 ghost use Rattle.std.specs.Str.{IsUtf8};
 ghost use Rattle.json_text.specs.Appending.{Extends};
 ghost use Rattle.json_text.specs.Compact.{Member as Pair};
-ghost use Rattle.json_text.specs.Members.{pairs};
+ghost use Rattle.json_text.specs.Members.{pairs, pair_of};
 ghost use Rattle.frac_keys.specs.Keys.{bytes_less};
+ghost use Rattle.members.specs.Standing.{nth};
 ghost use Rattle.elem.specs.inner.Printing.{IsBegun, mark, members_below, members_not_below};
 
 use board_base::bytes_order;
-use json_text::Member;
-use scene_json::push_member;
+use members::Members;
 use std::alloc::AllocError;
 
-/// Appends the first members, whose names are less than this one, and gives the others.
+/// Appends the members from an index on, whose names are less than this one, and tells where the
+/// others begin.
 #[tactic(auto, using(crate::proofs::Appending::extends_same, crate::proofs::Appending::extends_by, crate::proofs::Appending::extends_then))]
 #[inline(always)]
-pub(crate) fn push_below<'a>(
+pub(crate) fn push_below(
     out: &mut Vec<u8>,
     start: usize,
-    members: &'a [Member],
+    members: &Members,
+    at: usize,
     name: &str,
-) -> Result<&'a [Member], AllocError>
+) -> Result<usize, AllocError>
     ensures begun { OnOk result ((before : Items ℕ) (first : Items Pair) → start ≡ length before
         → IsBegun before first out.old.items → IsBegun before
-        (first ++ pairs (members_below name.now members.now)) out.new.items) }
-    ensures left { IfOk result (λ left. left.now ≡ members_not_below name.now members.now) }
-    ensures named { OnOk result (All (λ m. IsUtf8 m.name) (members_below name.now members.now)) }
+        (first ++ pairs (members_below name.now (drop at members.now))) out.new.items) }
+    ensures left { IfOk result (λ left. drop left members.now
+        ≡ members_not_below name.now (drop at members.now)) }
+    ensures named { OnOk result
+        (All (λ m. IsUtf8 m.name) (members_below name.now (drop at members.now))) }
     ensures utf8 { IsUtf8 name.now }
     ensures kept { Extends out.old.items out.new.items }
 {
-    let mut left = members;
-    while let Some((member, others)) = left.split_first() {
-        if !is_below(member, name) {
-            return Ok(left);
-        }
-        push_mark(out, start)?;
-        push_member(out, &member.name, &member.value)?;
-        left = others;
+    let mut left = at;
+    while let Some(next) = next_below(members, left, name) {
+        push_kept(out, start, members, left)?;
+        left = next;
     }
     Ok(left)
 }
 
-/// Whether the name of a member is less than this one. Mostly their first bytes tell.
-pub(crate) fn is_below(member: &Member, name: &str) -> bool
-    ensures { result ≡ bytes_less member.now.name name.now }
+/// The index behind the member at an index, if there is one and its name is less than this one.
+#[inline(always)]
+pub(crate) fn next_below(members: &Members, at: usize, name: &str) -> Option<usize>
+    ensures first { MatchOption result (members_below name.now (drop at members.now) ≡ [])
+        (λ next. (drop at members.now ≡ nth members.now at ∷ drop next members.now)
+        × (bytes_less (nth members.now at).name name.now ≡ true)) }
+    ensures within { IfSome result (λ next. at < length members.now) }
 {
-    match (member.name.as_bytes(), name.as_bytes()) {
+    if at < members.len() && is_below(members.name(at), name) {
+        Some(at + 1)
+    } else {
+        None
+    }
+}
+
+/// Whether a name is less than another one. Mostly their first bytes tell.
+fn is_below(name: &[u8], known: &str) -> bool
+    ensures { result ≡ bytes_less name.now known.now }
+{
+    match (name, known.as_bytes()) {
         ([a, ..], [b, ..]) if a != b => a < b,
         (a, b) => bytes_order(a, b).is_lt(),
     }
 }
 
-/// Appends members to an object that begins at an offset.
+/// Appends the members from an index on to an object that begins at an offset.
 #[tactic(auto, using(crate::proofs::Appending::extends_same, crate::proofs::Appending::extends_by, crate::proofs::Appending::extends_then))]
 pub(crate) fn push_members(
     out: &mut Vec<u8>,
     start: usize,
-    members: &[Member],
+    members: &Members,
+    at: usize,
 ) -> Result<(), AllocError>
     ensures begun { OnOk result ((before : Items ℕ) (first : Items Pair) → start ≡ length before
         → IsBegun before first out.old.items
-        → IsBegun before (first ++ pairs members.now) out.new.items) }
-    ensures named { OnOk result (All (λ m. IsUtf8 m.name) members.now) }
+        → IsBegun before (first ++ pairs (drop at members.now)) out.new.items) }
+    ensures named { OnOk result (All (λ m. IsUtf8 m.name) (drop at members.now)) }
     ensures kept { Extends out.old.items out.new.items }
 {
-    for member in members {
-        push_mark(out, start)?;
-        push_member(out, &member.name, &member.value)?;
+    for i in at..members.len() {
+        push_kept(out, start, members, i)?;
     }
+    Ok(())
+}
+
+/// Appends the member at an index to an object that begins at an offset.
+#[tactic(auto, using(crate::proofs::Appending::extends_same, crate::proofs::Appending::extends_by, crate::proofs::Appending::extends_then))]
+#[inline(always)]
+fn push_kept(
+    out: &mut Vec<u8>,
+    start: usize,
+    members: &Members,
+    at: usize,
+) -> Result<(), AllocError>
+    requires { at < length members.now }
+    ensures begun { OnOk result ((before : Items ℕ) (first : Items Pair) → start ≡ length before
+        → IsBegun before first out.old.items
+        → IsBegun before (first ++ pair_of (nth members.now at) ∷ []) out.new.items) }
+    ensures utf8 { IsUtf8 (nth members.now at).name }
+    ensures kept { Extends out.old.items out.new.items }
+{
+    let _name = members.name(at);
+    push_mark(out, start)?;
+    members.push(out, at)?;
     Ok(())
 }
 

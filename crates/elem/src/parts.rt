@@ -3,8 +3,8 @@
 ghost use Rattle.std.specs.Prelude.{◌≡◌, IfOk};
 
 use crate::kind::Role;
-use board_base::List;
-use json_text::{Member, Text};
+use crate::shared_members::SharedMembers;
+use json_text::Text;
 use std::alloc::AllocError;
 
 /// An entry of an element's listing: the id of an arrow or a text that goes with the element.
@@ -17,7 +17,7 @@ pub struct BoundRef {
 /// What an end of an arrow is bound to, and the further members of the binding.
 pub struct Binding {
     pub target: Text,
-    pub rest: List<Member>,
+    pub rest: SharedMembers,
 }
 
 // By hand, so that whoever drops a binding sees one call and not what it holds.
@@ -49,7 +49,7 @@ impl Binding {
     {
         Ok(Binding {
             target: self.target.try_clone()?,
-            rest: self.rest.try_clone_with(Member::try_clone)?,
+            rest: self.rest.try_clone()?,
         })
     }
 }

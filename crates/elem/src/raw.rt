@@ -61,12 +61,13 @@ fn push_element_parts(out: &mut Vec<u8>, e: &Element) -> Result<(), AllocError>
         (are_rising (map (λ (member : Pair). member.0) (element_members e.now)))) }
 {
     let start = out.len();
-    let mut rest = e.rest.as_slice();
+    let rest = e.rest.as_members();
+    let mut at = 0;
     for header in headers_of(&e.kind) {
-        rest = push_below(out, start, rest, header.name())?;
+        at = push_below(out, start, rest, at, header.name())?;
         push_header(out, start, e, *header)?;
     }
-    push_members(out, start, rest)?;
+    push_members(out, start, rest, at)?;
     out.push(b'}')?;
     Ok(())
 }
@@ -197,10 +198,11 @@ fn push_binding(out: &mut Vec<u8>, binding: &Option<Binding>) -> Result<(), Allo
         return push_null(out);
     };
     let start = out.len();
-    let rest = push_below(out, start, binding.rest.as_slice(), "elementId")?;
+    let rest = binding.rest.as_members();
+    let at = push_below(out, start, rest, 0, "elementId")?;
     begin_quoted(out, start, b"\"elementId\":")?;
     push_quote(out, &binding.target)?;
-    push_members(out, start, rest)?;
+    push_members(out, start, rest, at)?;
     out.push(b'}')?;
     Ok(())
 }

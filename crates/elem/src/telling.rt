@@ -13,9 +13,10 @@ ghost use Rattle.elem.specs.declared.parts.BoundRef.{BoundRef};
 use crate::element::Element;
 use crate::kind::Kind;
 use crate::parts::{Binding, BoundRef};
+use crate::shared_members::SharedMembers;
 use board_base::List;
 use frac_keys::Key;
-use json_text::{Member, Text};
+use json_text::Text;
 
 /// An element is one, and its texts are texts.
 pub(crate) fn tell(e: &Element)
@@ -32,7 +33,7 @@ pub(crate) fn tell(e: &Element)
     tell_binding(&e.start_binding);
     tell_binding(&e.end_binding);
     tell_optional(&e.file);
-    tell_names(e.rest.as_list());
+    tell_names(&e.rest);
 }
 
 /// A text is UTF-8.
@@ -88,11 +89,12 @@ fn tell_entries(entries: &List<BoundRef>)
 }
 
 /// The names of members are UTF-8.
-fn tell_names(members: &List<Member>)
+fn tell_names(members: &SharedMembers)
     ensures { AllByRecursion IsUtf8 (names members.now) }
 {
-    for member in members.as_slice() {
-        tell_text(&member.name);
+    let members = members.as_members();
+    for at in 0..members.len() {
+        let _bytes = members.name(at);
     }
 }
 

@@ -1,23 +1,24 @@
 //! The value of a header member, read piece by piece.
 
-ghost use Rattle.std.specs.Prelude.{◌≡◌, ◌++◌, [], ◌∷◌, true, Some, false, map, MatchOption, IfSome, if◌then◌else◌, codes};
+ghost use Rattle.std.specs.Prelude.{◌≡◌, ◌++◌, ◌<◌, [], ◌∷◌, Some, false, map, length, drop, MatchOption, IfSome, if◌then◌else◌, codes};
 ghost use Rattle.json_text.specs.Characters.{quote};
 ghost use Rattle.json_text.specs.Members.{pair_of};
 ghost use Rattle.json_text.specs.Compact.{array_text, member_text};
-ghost use Rattle.frac_keys.specs.Keys.{bytes_less};
+ghost use Rattle.members.specs.Standing.{nth};
 ghost use Rattle.elem.specs.Facts.{IsBinding};
-ghost use Rattle.elem.specs.inner.Printing.{members_below, header_value};
+ghost use Rattle.elem.specs.inner.Printing.{header_value};
 ghost use Rattle.elem.specs.inner.Left.{list_left, object_left, value_left, start_left, Splits, IsElementSource};
 ghost use Rattle.elem.specs.Texts.{bound_text, binding_text, kind_name, role_name, truth_text, text_or_null};
 
 use crate::header::Header;
 use crate::kind::{Kind, Role};
-use crate::object::is_below;
+use crate::object::next_below;
 use crate::parts::{Binding, BoundRef};
 use crate::piece::TextPiece;
 use crate::source::Source;
 use frac_keys::Key;
-use json_text::{Member, QuoteBytes, Text};
+use json_text::{QuoteBytes, Text};
+use members::Members;
 
 /// What is left of the value of a header member, behind a piece of it. The truth tells that nothing
 /// of it was read.
@@ -29,9 +30,9 @@ pub(crate) enum Value<'a> {
     /// A listing.
     Listing(bool, &'a [BoundRef]),
     /// A binding whose target comes among its further members.
-    Target(bool, &'a Text, &'a [Member]),
+    Target(bool, &'a Text, &'a Members, usize),
     /// A binding of which further members alone come.
-    Members(&'a [Member]),
+    Members(&'a Members, usize),
 }
 
 /// The value of a header member: a quote, bytes as they are, and more.
@@ -164,7 +165,7 @@ fn target_start(binding: &Binding) -> Start<'_>
     requires { IsBinding binding.now }
     ensures { start_left result ≡ binding_text (Some binding.now) }
 {
-    Start::more(Value::Target(true, &binding.target, binding.rest.as_slice()))
+    Start::more(Value::Target(true, &binding.target, binding.rest.as_members(), 0))
 }
 
 /// The name of a kind.
@@ -198,8 +199,8 @@ impl<'a> Value<'a> {
             Value::Nothing => None,
             Value::Texts(first, texts) => Some(next_text(first, texts)),
             Value::Listing(first, entries) => Some(next_entry(first, entries)),
-            Value::Target(first, target, rest) => Some(next_bound(first, target, rest)),
-            Value::Members(rest) => Some(next_member(rest)),
+            Value::Target(first, target, rest, at) => Some(next_bound(first, target, rest, at)),
+            Value::Members(rest, at) => Some(next_member(rest, at)),
         }
     }
 }
@@ -280,34 +281,39 @@ fn role_end(role: Role) -> &'static [u8]
     }
 }
 
-/// The next member of a binding.
-fn next_bound<'a>(first: bool, target: &'a Text, rest: &'a [Member]) -> (TextPiece<'a>, Value<'a>)
-    ensures { Splits (object_left first ((codes "elementId", quote target.now) ∷ []) rest.now)
-        result.0 (value_left result.1) }
+/// The next member of a binding, whose further members are left from an index on.
+fn next_bound<'a>(
+    first: bool,
+    target: &'a Text,
+    rest: &'a Members,
+    at: usize,
+) -> (TextPiece<'a>, Value<'a>)
+    ensures { Splits (object_left first ((codes "elementId", quote target.now) ∷ [])
+        (drop at rest.now)) result.0 (value_left result.1) }
 {
-    match first_below(rest, "elementId") {
-        Some((member, rest)) => {
-            let piece = member_piece(first, member);
-            (piece, Value::Target(false, target, rest))
+    match next_below(rest, at, "elementId") {
+        Some(next) => {
+            let piece = member_piece(first, rest, at);
+            (piece, Value::Target(false, target, rest, next))
         }
         None => {
             let target = QuoteBytes::of(target.as_bytes());
             let piece = TextPiece::member(object_mark(first), b"elementId", target, b"");
-            (piece, Value::Members(rest))
+            (piece, Value::Members(rest, at))
         }
     }
 }
 
 /// The next of the members behind a binding's target.
-fn next_member(rest: &[Member]) -> (TextPiece<'_>, Value<'_>)
-    ensures { Splits (object_left false [] rest.now) result.0 (value_left result.1) }
+fn next_member(rest: &Members, at: usize) -> (TextPiece<'_>, Value<'_>)
+    ensures { Splits (object_left false [] (drop at rest.now)) result.0 (value_left result.1) }
 {
-    match rest.split_first() {
-        None => (TextPiece::plain(object_end(false)), Value::Nothing),
-        Some((member, rest)) => {
-            let piece = member_piece(false, member);
-            (piece, Value::Members(rest))
+    match at < rest.len() {
+        true => {
+            let piece = member_piece(false, rest, at);
+            (piece, Value::Members(rest, at + 1))
         }
+        false => (TextPiece::plain(object_end(false)), Value::Nothing),
     }
 }
 
@@ -332,25 +338,11 @@ pub(crate) fn object_end(first: bool) -> &'static [u8]
 }
 
 /// A member that is kept as it came.
-pub(crate) fn member_piece(first: bool, member: &Member) -> TextPiece<'_>
-    ensures { result ≡ (if first then 123 else 44) ∷ member_text (pair_of member.now) }
+pub(crate) fn member_piece(first: bool, members: &Members, at: usize) -> TextPiece<'_>
+    requires { at < length members.now }
+    ensures { result ≡ (if first then 123 else 44) ∷ member_text (pair_of (nth members.now at)) }
 {
     let mark = object_mark(first);
-    let (name, value) = (member.name.as_bytes(), member.value.as_bytes());
+    let (name, value) = (members.name(at), members.value(at));
     TextPiece::member(mark, name, QuoteBytes::none(), value)
-}
-
-/// The first member and the others, if its name is less than this one.
-pub(crate) fn first_below<'a>(
-    members: &'a [Member],
-    name: &str,
-) -> Option<(&'a Member, &'a [Member])>
-    ensures { MatchOption result (members_below name.now members.now ≡ [])
-        (λ found. (members.now ≡ found.0.now ∷ found.1.now)
-        × (bytes_less found.0.now.name name.now ≡ true)) }
-{
-    match members.split_first() {
-        Some((member, others)) if is_below(member, name) => Some((member, others)),
-        _ => None,
-    }
 }

@@ -1,8 +1,9 @@
 -- The members that are no header members.
-use Rattle.std.proofs.Common.{◌≡◌, ℕ, List, [], ◌∷◌, Bool, true, false, not, ◌||◌, cond, Some, refl, sym, ap, subst, ◌∙◌, map, filter, bytes_eq}
+use Rattle.std.proofs.Common.{◌≡◌, ℕ, zero, suc, ◌<◌, ◌≤◌, List, [], ◌∷◌, ◌++◌, length, take, drop, take_all, append-nil, arith, Bool, true, false, not, cond, Some, refl, sym, ap, subst, ◌∙◌, map, filter, bytes_eq}
 use Rattle.std.specs.Cmp.Lexicographic.{slice_cmp}
 use Rattle.std.specs.List.{AllByRecursion, IsDistinct, list_any}
 use Rattle.std.specs.List.Sorted.{IsPermutation, IsSortedBy}
+use Rattle.std.proofs.lemmas.List.{drop_all}
 use Rattle.std.proofs.lemmas.List.Elements.{All-from_recursion, recursion_from_All}
 use Rattle.std.proofs.lemmas.List.Sorted.{All-permutation, IsPermutation-map}
 use Rattle.std.specs.Ordering.{is_lt, nat_cmp}
@@ -12,6 +13,7 @@ use Rattle.json_text.specs.Compact.{Member as Pair}
 use Rattle.json_text.specs.Members.{pairs, pair_of}
 use Rattle.json_text.specs.Parts.{names_of}
 use Rattle.json_text.specs.declared.text.Member.{Member}
+use Rattle.members.specs.Standing.{nth}
 use Rattle.scene_json.specs.Named.{value_at, HaveRisingNames}
 use Rattle.json_text.proofs.CallerLemmas.{bytes_eq-apart}
 use Rattle.scene_json.proofs.CallerLemmas.{distinct_moved, same_moved, rising_from_sort, names-pairs}
@@ -72,17 +74,29 @@ kept-same test (m ∷ ms) name other =
       | false ↦ λ e. head-or name (m.name, m.value) (pairs (kept test ms)) (pairs ms) (kept-same test ms name other)
     ] refl
 
--- where the second test has nothing to find, the first one alone tells
-pub kept-alone : (test : List ℕ → Bool) (ms : List Member)
-    → kept test ms ≡ kept (λ name. test name || list_any (bytes_eq name) []) ms
-kept-alone test [] = refl
-kept-alone test (m ∷ ms) =
-    let alone : List Member = kept (λ name. test name || list_any (bytes_eq name) []) ms in
-    elim (test m.name) as (λ b. cond (not b) (m ∷ kept test ms) (kept test ms)
-    ≡ cond (not (b || false)) (m ∷ alone) alone) [
-      | true ↦ kept-alone test ms
-      | false ↦ ap (λ others. m ∷ others) (kept-alone test ms)
-    ]
+-- ---- what a loop has passed and what is left of the others
+-- the members that were passed, and of the others those that are left
+abbrev pub passed : (List ℕ → Bool) → ℕ → List Member → List Member
+passed test at ms = take at ms ++ kept test (drop at ms)
+
+pub passed-removed : (test : List ℕ → Bool) (at next : ℕ) (ms : List Member) → next ≡ suc at → at < length ms
+    → test (nth ms at).name ≡ true → passed test at (take at ms ++ drop next ms) ≡ passed test at ms
+passed-removed test at next [] is inside has = elim inside [ ]
+passed-removed test zero next (m ∷ ms) is inside has =
+    rw (is, has) refl
+passed-removed test (suc at) next (m ∷ ms) is inside has =
+    rw is (ap (λ rest. m ∷ rest) (passed-removed test at (suc at) ms refl (omega arith) has))
+
+pub passed-kept : (test : List ℕ → Bool) (at next : ℕ) (ms : List Member) → next ≡ suc at → at < length ms
+    → test (nth ms at).name ≡ false → passed test next ms ≡ passed test at ms
+passed-kept test at next [] is inside lacks = elim inside [ ]
+passed-kept test zero next (m ∷ ms) is inside lacks =
+    rw (is, lacks) refl
+passed-kept test (suc at) next (m ∷ ms) is inside lacks =
+    rw is (ap (λ rest. m ∷ rest) (passed-kept test at (suc at) ms refl (omega arith) lacks))
+
+pub passed-all : (test : List ℕ → Bool) (at : ℕ) (ms : List Member) → length ms ≤ at → passed test at ms ≡ ms
+passed-all test at ms all = rw (take_all at ms all, drop_all at ms all, append-nil) refl
 
 pub kept-others : (test : List ℕ → Bool) (ms : List Member) → HaveRisingNames (pairs ms)
     → AreOthers test (find_in (pairs ms)) (kept test ms)

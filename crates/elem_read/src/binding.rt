@@ -13,11 +13,13 @@ ghost use Rattle.elem_read.specs.inner.Parts.{Reads};
 ghost use Rattle.elem_read.specs.declared.fault.ElemFault.TheVariants as faults;
 
 use crate::fault::ElemFault;
+use crate::near::value_first;
 use crate::object::object_members;
 use board_base::{List, Stop};
-use elem::Binding;
+use elem::{Binding, SharedMembers};
 use json_text::Member;
-use scene_json::{is_null, text_named, value_named};
+use members::Members;
+use scene_json::{is_null, text_named};
 use std::alloc::{AllocError, Global};
 
 /// The member in which a binding names its target.
@@ -26,7 +28,7 @@ const TARGET: &str = "elementId";
 /// The member of this name where the element's kind has it, a binding or none.
 pub(crate) fn own_binding(
     alloc: Global,
-    members: &List<Member>,
+    members: &Members,
     own: bool,
     name: &str,
 ) -> Result<Option<Binding>, Stop<ElemFault>>
@@ -43,24 +45,24 @@ pub(crate) fn own_binding(
 /// The member of this name, a binding, or none where it is null, missing or names no target.
 fn binding_or_null(
     alloc: Global,
-    given: &List<Member>,
+    given: &Members,
     name: &str,
 ) -> Result<Option<Binding>, Stop<ElemFault>>
     ensures { Reads (IsBindingOrNull (value_at name.now (pairs given.now))) faults.Binding result }
 {
-    let Some(value) = value_named(given, name) else {
+    let Some(value) = value_first(given, name)? else {
         return Ok(None);
     };
-    if is_null(value) {
+    if is_null(&value) {
         return Ok(None);
     }
-    let Some(members) = object_members(alloc, value)? else {
+    let Some(members) = object_members(alloc, &value)? else {
         return Err(Stop::Fault(ElemFault::Binding));
     };
     let Some(target) = text_named(alloc, &members, TARGET)? else {
         return Ok(None);
     };
-    let rest = further_members(members)?;
+    let rest = SharedMembers::new(alloc, further_members(members)?)?;
     Ok(Some(Binding { target, rest }))
 }
 

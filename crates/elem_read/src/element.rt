@@ -16,13 +16,13 @@ use crate::forms::{id, index, own_text, text_or_null, texts, truth, whole};
 use crate::kinds::{is_arrow, is_image, is_text, kind, others};
 use crate::listing::listing;
 use crate::places::{FRAME_ID, GROUP_IDS, IS_DELETED, OWN_TEXT, UPDATED, VERSION, VERSION_NONCE};
-use board_base::{List, Stop};
+use board_base::Stop;
 use elem::Element;
-use json_text::Member;
+use members::Members;
 use std::alloc::Global;
 
 /// The element that restored members say, or the first fault of them.
-pub(crate) fn element_of(alloc: Global, members: List<Member>) -> Result<Element, Stop<ElemFault>>
+pub(crate) fn element_of(alloc: Global, members: Members) -> Result<Element, Stop<ElemFault>>
     requires kept { value_at (codes "type") (pairs members) ≢ Some selection_text }
     requires rise { HaveRisingNames (pairs members) }
     requires nest { All (λ member. IsCompact 119 member.value) members }

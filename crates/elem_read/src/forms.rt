@@ -13,14 +13,15 @@ use crate::near::{text_near, truth_near, value_near, whole_near};
 use crate::places::{ID, INDEX};
 use board_base::{List, Stop};
 use frac_keys::Key;
-use json_text::{Member, Text};
+use json_text::Text;
+use members::Members;
 use scene_json::{is_null, shaped, text_of, texts_of};
 use std::alloc::{AllocError, Global};
 
 /// The member of this name, a text.
 pub(crate) fn text(
     alloc: Global,
-    members: &List<Member>,
+    members: &Members,
     name: &str,
     place: usize,
     fault: ElemFault,
@@ -35,7 +36,7 @@ pub(crate) fn text(
 }
 
 /// The id, a text that isn't empty.
-pub(crate) fn id(alloc: Global, members: &List<Member>) -> Result<Text, Stop<ElemFault>>
+pub(crate) fn id(alloc: Global, members: &Members) -> Result<Text, Stop<ElemFault>>
     requires { HaveRisingNames (pairs members.now) }
     ensures { Reads (IsId (value_at (codes "id") (pairs members.now))) faults.Id result }
 {
@@ -45,9 +46,9 @@ pub(crate) fn id(alloc: Global, members: &List<Member>) -> Result<Text, Stop<Ele
     }
 }
 
-/// The member of this name, a whole number. It takes no memory.
+/// The member of this name, a whole number.
 pub(crate) fn whole(
-    members: &List<Member>,
+    members: &Members,
     name: &str,
     place: usize,
     fault: ElemFault,
@@ -55,15 +56,15 @@ pub(crate) fn whole(
     requires { HaveRisingNames (pairs members.now) }
     ensures { Reads (IsWholeNumber (value_at name.now (pairs members.now))) fault result }
 {
-    match whole_near(members, name, place) {
+    match whole_near(members, name, place)? {
         Some(number) => Ok(number),
         None => Err(Stop::Fault(fault)),
     }
 }
 
-/// The member of this name, true or false. It takes no memory.
+/// The member of this name, true or false.
 pub(crate) fn truth(
-    members: &List<Member>,
+    members: &Members,
     name: &str,
     place: usize,
     fault: ElemFault,
@@ -71,7 +72,7 @@ pub(crate) fn truth(
     requires { HaveRisingNames (pairs members.now) }
     ensures { Reads (IsTruth (value_at name.now (pairs members.now))) fault result }
 {
-    match truth_near(members, name, place) {
+    match truth_near(members, name, place)? {
         Some(truth) => Ok(truth),
         None => Err(Stop::Fault(fault)),
     }
@@ -80,7 +81,7 @@ pub(crate) fn truth(
 /// The member of this name, a text, or none where it is null or missing.
 pub(crate) fn text_or_null(
     alloc: Global,
-    members: &List<Member>,
+    members: &Members,
     name: &str,
     place: usize,
     fault: ElemFault,
@@ -88,20 +89,20 @@ pub(crate) fn text_or_null(
     requires { HaveRisingNames (pairs members.now) }
     ensures { Reads (IsTextOrNull (value_at name.now (pairs members.now))) fault result }
 {
-    let Some(value) = value_near(members, name, place) else {
+    let Some(value) = value_near(members, name, place)? else {
         return Ok(None);
     };
-    if is_null(value) {
+    if is_null(&value) {
         return Ok(None);
     }
-    match shaped(text_of(alloc, value))? {
+    match shaped(text_of(alloc, &value))? {
         Some(text) => Ok(Some(text)),
         None => Err(Stop::Fault(fault)),
     }
 }
 
 /// The key, or none where `index` is null or a text that is no key.
-pub(crate) fn index(alloc: Global, members: &List<Member>) -> Result<Option<Key>, Stop<ElemFault>>
+pub(crate) fn index(alloc: Global, members: &Members) -> Result<Option<Key>, Stop<ElemFault>>
     requires { HaveRisingNames (pairs members.now) }
     ensures { Reads (IsKeyOrNull (value_at (codes "index") (pairs members.now))) faults.Index
         result }
@@ -115,7 +116,7 @@ pub(crate) fn index(alloc: Global, members: &List<Member>) -> Result<Option<Key>
 /// The member of this name, an array of texts.
 pub(crate) fn texts(
     alloc: Global,
-    members: &List<Member>,
+    members: &Members,
     name: &str,
     place: usize,
     fault: ElemFault,
@@ -123,10 +124,10 @@ pub(crate) fn texts(
     requires { HaveRisingNames (pairs members.now) }
     ensures { Reads (AreTexts (value_at name.now (pairs members.now))) fault result }
 {
-    let Some(value) = value_near(members, name, place) else {
+    let Some(value) = value_near(members, name, place)? else {
         return Err(Stop::Fault(fault));
     };
-    match texts_of(alloc, value)? {
+    match texts_of(alloc, &value)? {
         Some(texts) => Ok(texts),
         None => Err(Stop::Fault(fault)),
     }
@@ -135,7 +136,7 @@ pub(crate) fn texts(
 /// The member of this name where the element's kind has it, a text or none.
 pub(crate) fn own_text(
     alloc: Global,
-    members: &List<Member>,
+    members: &Members,
     own: bool,
     name: &str,
     place: usize,

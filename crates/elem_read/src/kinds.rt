@@ -16,13 +16,14 @@ ghost use Rattle.elem_read.specs.declared.fault.ElemFault.TheVariants as faults;
 use crate::fault::ElemFault;
 use crate::forms::text;
 use crate::places::TYPE;
-use board_base::{List, Stop};
+use board_base::Stop;
 use elem::{Kind, SharedMembers};
-use json_text::{Member, Text};
+use json_text::Text;
+use members::Members;
 use std::alloc::{AllocError, Global};
 
 /// The kind, which isn't `selection`.
-pub(crate) fn kind(alloc: Global, members: &List<Member>) -> Result<Kind, Stop<ElemFault>>
+pub(crate) fn kind(alloc: Global, members: &Members) -> Result<Kind, Stop<ElemFault>>
     requires rise { HaveRisingNames (pairs members.now) }
     requires kept { value_at (codes "type") (pairs members.now) ≢ Some selection_text }
     ensures { ReadsOr (IsKindName (value_at (codes "type") (pairs members.now)))
@@ -101,27 +102,30 @@ pub(crate) fn is_image(kind: &Kind) -> bool
 /// as long as the element, so no room is left beside them.
 pub(crate) fn others(
     alloc: Global,
-    members: List<Member>,
+    members: Members,
     kind: &Kind,
 ) -> Result<SharedMembers, AllocError>
     ensures { IfOk result (λ others. others
         ≡ filter (λ member. not (facts.is_header kind.now member.name)) members) }
 {
-    let mut others = members.into_vec();
+    let mut others = members;
     drop_headers(&mut others, kind);
-    others.shrink_to_fit();
-    SharedMembers::new(alloc, List::from_vec(others))
+    let shrunk = others.shrunk(alloc)?;
+    SharedMembers::of(alloc, shrunk)
 }
 
-/// Drops the header members of the kind. Most kinds have only those that all have.
-fn drop_headers(members: &mut Vec<Member>, kind: &Kind)
-    ensures { members.new.items ≡ filter (λ member. not (facts.is_header kind.now member.name))
-        members.old.items }
+/// Drops the header members of the kind.
+fn drop_headers(members: &mut Members, kind: &Kind)
+    ensures { members.new ≡ filter (λ member. not (facts.is_header kind.now member.name))
+        members.old }
 {
-    if has_own(kind) {
-        members.retain(|member| !is_header(kind, member.name.as_bytes()));
-    } else {
-        members.retain(|member| !is_common(member.name.as_bytes()));
+    let mut at = 0;
+    while at < members.len() {
+        if is_header(kind, members.name(at)) {
+            members.remove(at);
+        } else {
+            at += 1;
+        }
     }
 }
 
@@ -150,13 +154,6 @@ fn is_common(name: &[u8]) -> bool
         [b'v', ..] => name == b"version".as_slice() || name == b"versionNonce".as_slice(),
         _ => false,
     }
-}
-
-/// Whether the kind has header members that others have not.
-fn has_own(kind: &Kind) -> bool
-    ensures { result ≡ false → own_names kind.now ≡ [] }
-{
-    matches!(kind, Kind::Text | Kind::Arrow | Kind::Image)
 }
 
 /// Whether the kind alone has a header member of this name.

@@ -16,22 +16,20 @@ use crate::places::BOUND_ELEMENTS;
 use board_base::{List, Stop};
 use elem::{BoundRef, Role};
 use json_text::{Member, Raw};
+use members::Members;
 use scene_json::{has_value, items, members, shaped, text_named};
 use std::alloc::{AllocError, Global};
 
 /// The listing: the entries of an array. What has another form is dropped.
-pub(crate) fn listing(
-    alloc: Global,
-    members: &List<Member>,
-) -> Result<List<BoundRef>, Stop<ElemFault>>
+pub(crate) fn listing(alloc: Global, members: &Members) -> Result<List<BoundRef>, Stop<ElemFault>>
     requires { HaveRisingNames (pairs members.now) }
     ensures { Reads (IsListing (value_at (codes "boundElements") (pairs members.now))) faults.Bound
         result }
 {
-    let Some(value) = value_near(members, "boundElements", BOUND_ELEMENTS) else {
+    let Some(value) = value_near(members, "boundElements", BOUND_ELEMENTS)? else {
         return Err(Stop::Fault(ElemFault::Bound));
     };
-    let Some(items) = shaped(items(alloc, value))? else {
+    let Some(items) = shaped(items(alloc, &value))? else {
         return Err(Stop::Fault(ElemFault::Bound));
     };
     Ok(entries(alloc, &items)?)

@@ -1,9 +1,10 @@
 //! Elements, read from values.
 
-ghost use Rattle.std.specs.Prelude.{◌≡◌, ◌↔◌, ℕ, List as Items, IsTrue, MatchOption, IfOk, IfSome, Ok, Err, All};
+ghost use Rattle.std.specs.Prelude.{◌≡◌, ◌↔◌, ◌<◌, ℕ, List as Items, length, IsTrue, MatchOption, IfOk, IfSome, Ok, Err, All};
 ghost use Rattle.json_text.specs.Compact.{Member as Pair};
 ghost use Rattle.json_text.specs.Members.{pairs};
 ghost use Rattle.json_text.specs.Value.{IsCompact};
+ghost use Rattle.members.specs.Standing.{nth};
 ghost use Rattle.scene_json.specs.Walks.{AreLeft, AreBehind, IsTakenApart};
 ghost use Rattle.elem.specs.Forms.{IsObject};
 ghost use Rattle.elem_read.specs.Elements.{AreRead, IsFirstFaulty};
@@ -13,13 +14,14 @@ ghost use Rattle.elem_read.specs.declared.fault.FaultyElement.{FaultyElement};
 
 use crate::element::element_of;
 use crate::fault::{ElemFault, FaultyElement};
-use crate::object::object_members;
+use crate::near::has_value;
 use board_base::{List, Stop};
 use elem::Element;
-use json_text::{Member, Raw};
+use json_text::Raw;
+use members::Members;
 use restore_table::into_restored;
-use scene_json::{Item, Objects, has_value, nests_at_most};
-use std::alloc::Global;
+use scene_json::{Item, Objects, item_of, nests_at_most};
+use std::alloc::{AllocError, Global};
 
 /// How many brackets may be open at once in an element, its own counted.
 const DEEPEST: u64 = 120;
@@ -34,10 +36,8 @@ pub fn read_element(alloc: Global, value: &Raw) -> Result<Option<Element>, Stop<
         → IsFaultIn value.now fault }
     ensures whole { IfOk result (λ found. IfSome found IsWholeElement) }
 {
-    match object_members(alloc, value)? {
-        Some(given) => read_members(alloc, given),
-        None => Err(Stop::Fault(ElemFault::NotObject)),
-    }
+    let item = item_of(alloc, value)?;
+    read_item(alloc, item)
 }
 
 /// The element that an item is.
@@ -56,7 +56,7 @@ fn read_item(alloc: Global, item: Item) -> Result<Option<Element>, Stop<ElemFaul
 }
 
 /// The element that an object with these members is.
-fn read_members(alloc: Global, given: List<Member>) -> Result<Option<Element>, Stop<ElemFault>>
+fn read_members(alloc: Global, given: Members) -> Result<Option<Element>, Stop<ElemFault>>
     requires { (value : Items ℕ) × IsObject value (pairs given) }
     ensures read { IfOk result (λ found. (value : Items ℕ) → IsObject value (pairs given)
         → MatchOption found (IsSelection value) (IsElementIn value)) }
@@ -64,10 +64,10 @@ fn read_members(alloc: Global, given: List<Member>) -> Result<Option<Element>, S
         → IsObject value (pairs given) → IsFaultIn value fault }
     ensures whole { IfOk result (λ found. IfSome found IsWholeElement) }
 {
-    if has_value(&given, "type", "\"selection\"") {
+    if has_value(&given, "type", "\"selection\"")? {
         return Ok(None);
     }
-    if !is_shallow(&given) {
+    if !is_shallow(&given)? {
         return Err(Stop::Fault(ElemFault::Depth));
     }
     let restored = into_restored(alloc, given)?;
@@ -76,25 +76,33 @@ fn read_members(alloc: Global, given: List<Member>) -> Result<Option<Element>, S
 }
 
 /// Whether an element with these members nests at most as deep as it may.
-fn is_shallow(members: &List<Member>) -> bool
-    ensures { (value : Items ℕ) → IsObject value (pairs members.now) → IsTrue result
-        ↔ IsCompact 120 value }
+fn is_shallow(members: &Members) -> Result<bool, AllocError>
+    ensures { IfOk result (λ shallow. (value : Items ℕ) → IsObject value (pairs members.now)
+        → IsTrue shallow ↔ IsCompact 120 value) }
 {
-    for member in members.as_slice() {
-        if !nests_within(&member.value, DEEPEST - 1) {
-            return false;
+    for at in 0..members.len() {
+        if !nests_within(members, at, DEEPEST - 1)? {
+            return Ok(false);
         }
     }
-    true
+    Ok(true)
 }
 
-/// Whether at most so many brackets are open at once in the value. Most values aren't looked
-/// through, since they have no more bytes than that.
+/// Whether at most so many brackets are open at once in the value of the member at an index. Most
+/// values aren't looked through, since they have no more bytes than that.
 #[tactic(auto, using(crate::proofs::ShortValues::short_nests))]
-fn nests_within(value: &Raw, limit: u64) -> bool
-    ensures { IsTrue result ↔ IsCompact limit value.now }
+fn nests_within(members: &Members, at: usize, limit: u64) -> Result<bool, AllocError>
+    requires { at < length members.now }
+    ensures { IfOk result (λ within. IsTrue within
+        ↔ IsCompact limit (nth members.now at).value) }
 {
-    value.as_bytes().len() as u64 <= limit || nests_at_most(value, limit)
+    // Read for what its type keeps: it is compact.
+    let _value = members.value(at);
+    if members.value_len(at) as u64 <= limit {
+        return Ok(true);
+    }
+    let value = members.to_value(at)?;
+    Ok(nests_at_most(&value, limit))
 }
 
 /// The elements that the values are, in their order, without what is dropped; or the first faulty

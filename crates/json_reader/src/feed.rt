@@ -28,7 +28,7 @@ pub struct Fed {
 }
 
 /// A reader of values from pieces of a stream. It keeps no earlier bytes than those of the value
-/// under way.
+/// under way, and no room for them once it has ended.
 pub struct Feed {
     /// It has read a first part of the rest.
     reader: ValueReader,
@@ -174,7 +174,7 @@ impl Feed {
         let alloc = *self.rest.allocator();
         match read_end(alloc, &mut self.reader, &self.rest, self.used) {
             Ok(value) => {
-                self.rest.clear();
+                self.rest = Vec::new(alloc);
                 Ok(Some(value))
             }
             Err(Stop::Fault(cut_off)) => {
@@ -219,7 +219,7 @@ fn read_piece(
             Ok(Fed { used, value: None })
         }
         Ok(Taken::Ended(value, end)) => {
-            rest.clear();
+            *rest = Vec::new(alloc);
             Ok(Fed {
                 used: end - before,
                 value: Some(value),

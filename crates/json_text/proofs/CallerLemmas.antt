@@ -7,7 +7,7 @@ pub use Rattle.json_text.proofs.Reading.{list_all-each, literal-plain, number, n
 pub use Rattle.json_text.proofs.Reading.{space-ends, spread, tail-same, tree-Head, tree-once, values-Front}
 pub use Rattle.json_text.proofs.Appending.{extends_by, extends_same, extends_then, on_err, on_err_same, on_err_then}
 pub use Rattle.json_text.proofs.Contents.{content-first, drop-after, inside-after, passed_all, passed_within}
-pub use Rattle.json_text.proofs.Contents.{prefix-run}
+pub use Rattle.json_text.proofs.Contents.{prefix-run, run-within, unescaped}
 pub use Rattle.json_text.proofs.Collapsed.{bytes_eq-apart, bytes_eq-flip, bytes_eq-same, bytes_eq-true, collapsed-names}
 pub use Rattle.json_text.proofs.Collapsed.{collapsed-push, insert_entry, name_of, names_of, none_passes}
 pub use Rattle.json_text.proofs.CompactLaws.{AreMembers, Form, Value-Form, Value-compact, Value-deeper, Written}

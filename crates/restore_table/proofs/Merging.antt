@@ -2,7 +2,6 @@
 use Rattle.std.proofs.Common.{◌≡◌, ◌≢◌, ℕ, List, [], ◌∷◌, ◌++◌, ◌+◌, ◌≤◌, zero, suc, length, take, drop, set, get_or, slice_get, insert, arith, Ordering, Bool, true, false, Option, Some, None, bytes_eq, nat_cmp, refl, sym, subst, ap, ◌∙◌, if◌then◌else◌}
 use Rattle.std.specs.Cmp.Lexicographic.{slice_cmp, nat_list_cmp_total}
 use Rattle.std.specs.List.{AllByRecursion}
-use Rattle.std.specs.List.Sorted.{IsPermutation}
 use Rattle.std.specs.Option.{option_map_or}
 use Rattle.std.specs.Ordering.{match_ordering, ordering_reverse}
 use Rattle.std.specs.declared.cmp.Ordering.TheVariants.{Less, Equal, Greater}
@@ -16,8 +15,7 @@ use Rattle.scene_json.specs.Named.{value_at, HaveRisingNames}
 use Rattle.json_text.proofs.CallerLemmas.{bytes_eq-true}
 use Rattle.scene_json.proofs.CallerLemmas.{IsBelow, IsBelow-less, bytes_eq-tied, less_turned, value_at-below, rising_parts, rising_from, rising_none}
 use Rattle.restore_table.specs.Merged.{chosen, spliced, merged}
-use Rattle.restore_table.specs.inner.Merged.{RiseAfter, IsWholeAfter, AreCompleted}
-use Rattle.restore_table.specs.Table.{defaults}
+use Rattle.restore_table.specs.inner.Merged.{RiseAfter, IsWholeAfter}
 use Rattle.restore_table.specs.Restored.{filled}
 
 -- ---- the names rise
@@ -290,12 +288,3 @@ whole-member last m (row ∷ rows) others less before w =
       whole = ap (by_order row m others rows) behind
           ∙ ap (λ xs. m ∷ xs) w.whole;
     }
-
-pub whole-completed : (ms ns : List Member) → IsPermutation ms ns → IsWholeAfter [] defaults (pairs ns)
-    → AreCompleted ms ns
-whole-completed ms ns moved w = record {
-  ordered = ns;
-  moved = moved;
-  rise = λ apart. (rising_parts ([], []) (pairs ns) w.rise).1;
-  made = sym w.whole;
-}

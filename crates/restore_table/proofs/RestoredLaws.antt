@@ -1,19 +1,25 @@
 -- Restored members.
 use Rattle.std.proofs.Common.{◌≡◌, ◌≢◌, ℕ, List, [], ◌∷◌, false, Option, Some, None, bytes_eq, map, refl, sym, subst, ap, ◌∙◌, inl, inr}
+use Rattle.std.specs.List.{IsDistinct}
 use Rattle.std.specs.List.Sorted.{IsPermutation}
 use Rattle.std.proofs.lemmas.Bool.{both_ways, cases_Bool, cond-true, cond-false}
+use Rattle.std.proofs.lemmas.List.Sorted.{IsPermutation-map}
 use Rattle.std.proofs.lemmas.Option.{none-some}
 use Rattle.json_text.specs.Characters.{quote}
 use Rattle.json_text.specs.Compact.{Member as Pair, array_text}
+use Rattle.json_text.specs.Members.{pairs, pair_of}
+use Rattle.json_text.specs.Parts.{names_of}
 use Rattle.json_text.specs.Tree.{null_word}
+use Rattle.json_text.specs.declared.text.Member.{Member}
 use Rattle.scene_json.specs.Named.{value_at, AreSameMembers, HaveRisingNames}
 use Rattle.scene_json.specs.TheOne.{IsTheOne}
 use Rattle.json_text.proofs.CallerLemmas.{bytes_eq-true, bytes_eq-same, bytes_eq-apart}
-use Rattle.scene_json.proofs.CallerLemmas.{same_moved, rising_same}
+use Rattle.scene_json.proofs.CallerLemmas.{distinct_moved, names-pairs, rising_parts, same_moved, rising_same}
 use Rattle.restore_table.specs.Merged.{merged}
-use Rattle.restore_table.specs.inner.Merged.{AreUpdated, listing_over}
+use Rattle.restore_table.specs.inner.Merged.{AreUpdated, IsWhole, listing_over}
 use Rattle.restore_table.specs.Restored.{filled, filled_at, AreRestored, HasOldListing, LackNothing, listing_at, listing_text, listing_name, old_name}
 use Rattle.restore_table.specs.Table.{defaults}
+use Rattle.restore_table.proofs.Listings.{updated-none}
 use Rattle.restore_table.proofs.Merging.{merged-at, merged-rise}
 use Rattle.restore_table.proofs.Rows.{defaults-rise, defaults-old}
 
@@ -233,3 +239,33 @@ pub unknown-stays : (ms rs : List Pair) (name : List ℕ) → AreRestored ms rs 
 unknown-stays ms rs name are not_old unknown =
     are.others name not_old (λ own. none-some (91 ∷ 93 ∷ []) (sym unknown ∙ ap (λ n. value_at n defaults) own))
     ∙ ap (λ d. filled d (value_at name ms)) unknown
+
+-- ---- members that are moved
+pairs-distinct : (ms : List Member) → IsDistinct bytes_eq (map (λ (m : Member). m.name) ms)
+    → IsDistinct bytes_eq (names_of (pairs ms))
+pairs-distinct ms apart = subst (IsDistinct bytes_eq) (sym (names-pairs ms)) apart
+
+pub moved-distinct : (ms ns : List Member) → IsDistinct bytes_eq (map (λ (m : Member). m.name) ms)
+    → IsPermutation ms ns → IsDistinct bytes_eq (map (λ (m : Member). m.name) ns)
+moved-distinct ms ns apart moved =
+    subst (IsDistinct bytes_eq) (names-pairs ns)
+    (distinct_moved (pairs ms) (pairs ns) (IsPermutation-map pair_of ms ns moved) (pairs-distinct ms apart))
+
+moved-same : (ms ns : List Member) → IsDistinct bytes_eq (map (λ (m : Member). m.name) ms) → IsPermutation ms ns
+    → AreSameMembers (pairs ms) (pairs ns)
+moved-same ms ns apart moved =
+    same_moved (pairs ms) (pairs ns) (pairs-distinct ms apart) (IsPermutation-map pair_of ms ns moved)
+
+pub restored-moved : (ms ns : List Member) (rs : List Pair) → IsDistinct bytes_eq (map (λ (m : Member). m.name) ms)
+    → IsPermutation ms ns → AreRestored (pairs ns) rs → AreRestored (pairs ms) rs
+restored-moved ms ns rs apart moved restored =
+    restored-order (pairs ns) (pairs ms) rs (λ name. sym (moved-same ms ns apart moved name)) restored
+
+pub restored-whole : (ms ns : List Member) → IsDistinct bytes_eq (map (λ (m : Member). m.name) ms)
+    → IsPermutation ms ns → IsWhole (pairs ns) → AreRestored (pairs ms) (pairs ns)
+restored-whole ms ns apart moved whole =
+    let none : value_at old_name (pairs ms) ≡ None = moved-same ms ns apart moved old_name ∙ whole.gone in
+    restored-from (pairs ms) (pairs ms) (pairs ns) (pairs ns)
+    (updated-none (pairs ms) (pairs ms) (pairs-distinct ms apart) none refl)
+    (IsPermutation-map pair_of ms ns moved) (rising_parts ([], []) (pairs ns) whole.beside.rise).1
+    (sym whole.beside.whole)

@@ -8,7 +8,7 @@ ghost use Rattle.json_text.specs.Members.{pairs};
 ghost use Rattle.json_text.specs.Value.{IsCompact};
 ghost use Rattle.scene_json.specs.TheOne.{IsTheOne};
 ghost use Rattle.restore_table.specs.inner.Merged.{AreUpdated, AreOldIds};
-ghost use Rattle.restore_table.specs.Restored.{arrow_text, listing_name, listing_text};
+ghost use Rattle.restore_table.specs.Restored.{arrow_text, listing_name, listing_text, old_name};
 
 use board_base::List;
 use json_text::{Member, Raw, Text};
@@ -20,6 +20,14 @@ const LISTING: &str = "boundElements";
 
 /// The member in which older files list the ids of the arrows that are bound to an element.
 const OLD_LISTING: &str = "boundElementIds";
+
+/// Whether the name is that of an old listing. Most are of another length, and so not compared.
+#[inline(always)]
+pub(crate) fn is_old_listing(name: &[u8]) -> bool
+    ensures { result ≡ bytes_eq old_name name.now }
+{
+    name.len() == OLD_LISTING.as_bytes().len() && OLD_LISTING.as_bytes() == name
+}
 
 /// The members with their old listing, if there is one, in its present form.
 pub(crate) fn updated(alloc: Global, members: List<Member>) -> Result<Vec<Member>, AllocError>

@@ -1,8 +1,7 @@
 //! Members with the defaults of those that are missing.
 
-ghost use Rattle.std.specs.Prelude.{◌≡◌, ◌↔◌, ◌≤◌, ℕ, List as Items, [], ◌∷◌, map, slice_get, option_copied, All, IfOk, IfSome, OnOk, IsTrue, bytes_eq};
+ghost use Rattle.std.specs.Prelude.{◌≡◌, ◌↔◌, ◌≤◌, ℕ, List as Items, [], ◌∷◌, map, slice_get, All, IfOk, IfSome, OnOk, IsPermutation, IsTrue, bytes_eq};
 ghost use Rattle.std.specs.Cmp.Lexicographic.{slice_cmp};
-ghost use Rattle.std.specs.Int.{w64, from_be_bytes};
 ghost use Rattle.std.specs.List.{IsDistinct};
 ghost use Rattle.std.specs.Option.{option_map_or};
 ghost use Rattle.std.specs.Ordering.{nat_cmp};
@@ -11,14 +10,15 @@ ghost use Rattle.json_text.specs.Compact.{Member as Pair};
 ghost use Rattle.json_text.specs.Members.{pairs, pair_of};
 ghost use Rattle.json_text.specs.Value.{IsCompact};
 ghost use Rattle.restore_table.specs.Merged.{chosen, merged};
-ghost use Rattle.restore_table.specs.inner.Merged.{row_pair, name_of, RiseAfter, IsWholeAfter, AreCompleted};
+ghost use Rattle.restore_table.specs.inner.Merged.{row_pair, RiseAfter, IsWholeAfter, IsWhole, AreCompleted};
 ghost use Rattle.restore_table.specs.Restored.{AreRestored};
 ghost use Rattle.restore_table.specs.Table.{defaults};
 
-use crate::legacy::updated;
+use crate::legacy::{is_old_listing, updated};
 use crate::table::{Row, rows};
 use board_base::{List, bytes_order};
 use json_text::{Member, Raw, Text};
+use members::Members;
 use scene_json::is_null;
 use std::alloc::{AllocError, Global};
 use std::cmp::Ordering;
@@ -33,11 +33,25 @@ pub fn restore(alloc: Global, members: &List<Member>) -> Result<List<Member>, Al
         → All (λ member. IsCompact limit member.value) members.now
         → IfOk result (λ restored. All (λ member. IsCompact limit member.value) restored) }
 {
-    into_restored(alloc, members.try_clone_with(Member::try_clone)?)
+    restored(alloc, members.try_clone_with(Member::try_clone)?)
 }
 
 /// As `restore`, but of members that are handed over. For want of memory they are dropped.
-pub fn into_restored(alloc: Global, members: List<Member>) -> Result<List<Member>, AllocError>
+pub fn into_restored(alloc: Global, members: Members) -> Result<Members, AllocError>
+    requires { IsDistinct bytes_eq (map (λ member. member.name) members) }
+    ensures restored { IfOk result (λ restored. AreRestored (pairs members) (pairs restored)) }
+    ensures nests { (limit : ℕ) → 2 ≤ limit → All (λ member. IsCompact limit member.value) members
+        → IfOk result (λ restored. All (λ member. IsCompact limit member.value) restored) }
+{
+    let mut members = members;
+    if are_whole_in_order(&mut members)? {
+        return Ok(members);
+    }
+    Ok(Members::apart(restored(alloc, members.into_list(alloc)?)?))
+}
+
+/// As `restore`, but of members that are handed over.
+fn restored(alloc: Global, members: List<Member>) -> Result<List<Member>, AllocError>
     requires { IsDistinct bytes_eq (map (λ member. member.name) members) }
     ensures restored { IfOk result (λ restored. AreRestored (pairs members) (pairs restored)) }
     ensures nests { (limit : ℕ) → 2 ≤ limit → All (λ member. IsCompact limit member.value) members
@@ -49,81 +63,81 @@ pub fn into_restored(alloc: Global, members: List<Member>) -> Result<List<Member
 }
 
 /// Puts the members in the order of their names, with the defaults of those that are missing or
-/// null. The fronts of the names are sorted first: they compare and move faster than members, and
-/// mostly nothing is left to do then.
+/// null.
 fn complete(members: &mut Vec<Member>) -> Result<(), AllocError>
     ensures { OnOk result (AreCompleted members.old.items members.new.items) }
 {
-    if is_whole(members) {
-        return Ok(());
-    }
-    members.sort_by_cached_key(|member| front_of(member.name.as_bytes()))?;
-    if is_whole(members) {
-        return Ok(());
-    }
     members.sort_by(|a, b| a.name.cmp(&b.name))?;
     fill_up(members)?;
     Ok(())
 }
 
-/// Whether the names of the members rise, and none of the table is missing, nor null if its default
-/// isn't.
-fn is_whole(members: &[Member]) -> bool
-    ensures { IsTrue result → IsWholeAfter [] defaults (pairs members.now) }
+/// Whether the members are whole as they stand, or in the order of the fronts of their names, in
+/// which they are left then. That is mostly so, and no member is copied.
+fn are_whole_in_order(members: &mut Members) -> Result<bool, AllocError>
+    ensures moved { OnOk result (IsPermutation members.old members.new) }
+    ensures whole { IfOk result (λ whole. IsTrue whole → IsWhole (pairs members.new)) }
 {
-    let mut last = None;
+    if is_whole(members) {
+        return Ok(true);
+    }
+    members.sort_by_fronts()?;
+    Ok(is_whole(members))
+}
+
+/// Whether the names of the members rise, none of the table is missing, nor null if its default
+/// isn't, and there is no old listing.
+fn is_whole(members: &Members) -> bool
+    ensures { IsTrue result → IsWhole (pairs members.now) }
+{
+    let mut last: &[u8] = &[];
     let mut left = rows();
-    for member in members {
-        let Some(behind) = rows_behind(left, last, member) else {
+    for at in 0..members.len() {
+        let name = members.name(at);
+        if is_old_listing(name) {
+            return false;
+        }
+        let Some(behind) = rows_behind(left, last, name, members.value(at)) else {
             return false;
         };
         left = behind;
-        last = Some(member);
+        last = name;
     }
     left.is_empty()
 }
 
-/// The rows behind a member. `None` where its name isn't greater than the last one, a row before it
-/// is missing, or its value is to be that of its row.
+/// The rows behind a member of this name and value. `None` where its name isn't greater than the
+/// last one, a row before it is missing, or its value is to be that of its row.
 fn rows_behind(
     rows: &'static [Row],
-    last: Option<&Member>,
-    member: &Member,
+    last: &[u8],
+    name: &[u8],
+    value: &[u8],
 ) -> Option<&'static [Row]>
-    requires { RiseAfter (name_of (option_copied last)) (map row_pair rows.now) }
-    ensures rise { IfSome result (λ behind. RiseAfter member.now.name (map row_pair behind.now)) }
+    requires { RiseAfter last.now (map row_pair rows.now) }
+    ensures rise { IfSome result (λ behind. RiseAfter name.now (map row_pair behind.now)) }
     ensures whole { IfSome result (λ behind. (others : Items Pair)
-        → IsWholeAfter member.now.name (map row_pair behind.now) others
-        → IsWholeAfter (name_of (option_copied last.entry)) (map row_pair rows.now)
-        (pair_of member.now ∷ others)) }
+        → IsWholeAfter name.now (map row_pair behind.now) others
+        → IsWholeAfter last.now (map row_pair rows.now) ((name.now, value.now) ∷ others)) }
 {
-    let name = member.name.as_bytes();
     if let Some((row, others)) = rows.split_first() {
         if name == row.name.as_bytes() {
-            return stays(row, member).then_some(others);
+            return stays(row, value).then_some(others);
         }
         if !is_less(name, row.name.as_bytes()) {
             return None;
         }
     }
-    is_less(name_of(last), name).then_some(rows)
+    is_less(last, name).then_some(rows)
 }
 
-/// The name of the last member, which is empty where there is none.
-fn name_of(last: Option<&Member>) -> &[u8]
-    ensures { result.now ≡ name_of (option_copied last.entry) }
+/// Whether a member of the row's name keeps this value. Most are of another length than null, and
+/// so not compared.
+fn stays(row: &Row, value: &[u8]) -> bool
+    ensures { IsTrue result → (name : Items ℕ)
+        → chosen (row_pair row.now) (name, value.now) ≡ (name, value.now) }
 {
-    match last {
-        Some(member) => member.name.as_bytes(),
-        None => &[],
-    }
-}
-
-/// Whether the member keeps its value beside its row.
-fn stays(row: &Row, member: &Member) -> bool
-    ensures { IsTrue result → chosen (row_pair row.now) (pair_of member.now) ≡ pair_of member.now }
-{
-    !is_null(&member.value) || row.default == "null"
+    value.len() != 4 || value != b"null".as_slice() || row.default == "null"
 }
 
 /// Whether the first name comes before the second.
@@ -131,19 +145,6 @@ fn is_less(name: &[u8], other: &[u8]) -> bool
     ensures { IsTrue result ↔ (slice_cmp nat_cmp name.now other.now ≡ Less) }
 {
     bytes_order(name, other).is_lt()
-}
-
-/// The first 8 bytes of a name as one number, the first of them the highest, with zeros behind a
-/// shorter name.
-fn front_of(name: &[u8]) -> u64
-    ensures { result ≡ from_be_bytes w64 name.now }
-{
-    if let Some(bytes) = name.first_chunk() {
-        return u64::from_be_bytes(*bytes);
-    }
-    let mut bytes = [0; 8];
-    bytes[..name.len()].copy_from_slice(name);
-    u64::from_be_bytes(bytes)
 }
 
 /// Fills up the members, whose names rise: puts the defaults of those that are missing between

@@ -2,7 +2,8 @@
 
 use board_base::List;
 use json_text::{Raw, Text, push_quoted};
-use scene_json::{push_member, push_whole, raw_array, raw_null, raw_text, raw_truth, raw_whole};
+use members::push_member;
+use scene_json::{push_whole, raw_array, raw_null, raw_text, raw_truth, raw_whole};
 use std::alloc::Global;
 use std::test::Fail;
 

@@ -22,7 +22,8 @@ use board_base::{Bytes, List};
 use elem::{Element, push_element, push_elements};
 use elem_store::{Store, push_stored};
 use json_text::{Member, Text, push_quote};
-use scene_json::{Lines, push_comma, push_member};
+use members::push_member;
+use scene_json::{Lines, push_comma};
 use std::alloc::{AllocError, Global};
 
 /// No element's text has fewer bytes.

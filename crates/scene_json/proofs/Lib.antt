@@ -8,6 +8,7 @@ mod Spread
 pub mod Laid
 pub mod ItemsLeft
 pub mod MembersLeft
+mod Placed
 mod FirstBytes
 pub mod Pairs
 pub mod Lookups

@@ -1,5 +1,5 @@
 -- The members of an object that are left while it is taken apart.
-use Rattle.std.proofs.Common.{◌≡◌, ◌≢◌, ◌<◌, ◌+◌, ◌-◌, inl, inr, ℕ, List, [], ◌∷◌, ◌++◌, Option, None, All, length, map, take, drop, get_or, refl, ap, ◌∙◌, arith, append_assoc, length-append, length-drop, IsUtf8}
+use Rattle.std.proofs.Common.{◌≡◌, ◌≢◌, ◌<◌, ◌+◌, ◌-◌, inl, inr, ℕ, List, [], ◌∷◌, ◌++◌, Option, None, All, length, map, take, drop, get_or, refl, sym, ap, ◌∙◌, arith, append_assoc, append-nil, length-append, length-drop, IsUtf8}
 use Rattle.std.specs.List.{AllByRecursion, join_with_byte}
 use Rattle.json_text.specs.Characters.{quote}
 use Rattle.json_text.specs.Tree.{object}
@@ -42,6 +42,10 @@ object-opened bytes start all rest are e = record {
   valued = are.valued;
   here = drop-after bytes start e ∙ append_assoc (join_with_byte 44 (map member_text all)) (125 ∷ []) rest;
 }
+
+pub whole-opened : (value : List ℕ) (all : List Member) → AreMembers 127 all → value ≡ object_text all
+    → StandHere (drop 1 value) all []
+whole-opened value all are e = object-opened value 0 all [] are (e ∙ sym (append-nil (object_text all)))
 
 -- ---- a step
 -- The first of these members stands here; behind it are the others.

@@ -2,17 +2,16 @@
 
 ghost use Rattle.std.specs.Prelude.{◌≡◌, ◌⊎◌, ℕ, [], ◌∷◌, ◌++◌, ◌+◌, ◌<◌, map, IfOk, IsOk, OnOk, OnErr, if◌then◌else◌, decimal, All, bytes_eq};
 ghost use Rattle.std.specs.List.{IsDistinct};
-ghost use Rattle.std.specs.Str.{IsUtf8};
-ghost use Rattle.json_text.specs.Appending.{Extends};
 ghost use Rattle.json_text.specs.Characters.{quote};
 ghost use Rattle.json_text.specs.Tree.{null_word, true_word, false_word};
-ghost use Rattle.json_text.specs.Compact.{array_text, object_text, member_text};
+ghost use Rattle.json_text.specs.Compact.{array_text, object_text};
 ghost use Rattle.json_text.specs.Value.{IsCompact};
 ghost use Rattle.json_text.specs.Members.{pairs};
 
 use board_base::List;
 use itoa::Buffer;
-use json_text::{Member, Raw, Text, push_quote, whole_or_cut};
+use json_text::{Member, Raw, Text, push_quote};
+use members::push_member;
 use std::alloc::{AllocError, Global};
 
 /// `null`. It takes no memory.
@@ -102,31 +101,6 @@ pub fn raw_object(alloc: Global, members: &List<Member>) -> Result<Raw, AllocErr
     }
     out.push(b'}')?;
     Raw::from_compact(out)
-}
-
-/// Appends a member: its quoted name, a colon and its value. For want of memory nothing is
-/// appended.
-#[inline(always)]
-pub fn push_member(out: &mut Vec<u8>, name: &Text, value: &Raw) -> Result<(), AllocError>
-    ensures ok { OnOk result (out.new.items ≡ out.old.items ++ member_text (name.now, value.now)) }
-    ensures err { OnErr result (out.new.items ≡ out.old.items) }
-    ensures utf8 { IsUtf8 name.now }
-{
-    let start = out.len();
-    let appended = push_member_parts(out, name, value);
-    whole_or_cut(out, start, appended)
-}
-
-/// Appends a member. After want of memory a part of it may stand there.
-#[inline(always)]
-fn push_member_parts(out: &mut Vec<u8>, name: &Text, value: &Raw) -> Result<(), AllocError>
-    ensures ok { OnOk result (out.new.items ≡ out.old.items ++ member_text (name.now, value.now)) }
-    ensures kept { OnErr result (Extends out.old.items out.new.items) }
-    ensures utf8 { IsUtf8 name.now }
-{
-    push_quote(out, name)?;
-    out.push(b':')?;
-    out.extend_from_slice(value.as_bytes())
 }
 
 /// Appends the comma before the item at this index, which the first has none of. For want of memory

@@ -13,7 +13,8 @@ ghost use Rattle.scene_json.specs.Walks.{AreLeft, AreBehind, AreTakenTo, IsTaken
 
 use crate::nesting::{after_opened, after_quiet, after_string};
 use board_base::{List, Stop};
-use json_text::{FEW_MEMBERS, Member, Raw, Text, inert_end, text_at};
+use json_text::{FEW_MEMBERS, Member, Raw, Text, inert_end, run_end, text_at};
+use members::{Members, Place};
 use std::alloc::{AllocError, Global};
 use std::marker::Model;
 
@@ -163,7 +164,7 @@ fn stops_at(stop: Option<&str>, name: &Text, first: u8) -> bool
 #[derive(Drop)]
 pub enum Item {
     /// An object with these members.
-    Object(List<Member>),
+    Object(Members),
     /// Any other value.
     Other,
 }
@@ -250,11 +251,75 @@ fn item_at(alloc: Global, array: &Raw, at: usize) -> Result<(Item, usize), Alloc
 {
     let bytes = array.as_bytes();
     if bytes[at] == b'{' {
-        let mut members = Vec::with_capacity(alloc, FEW_MEMBERS)?;
-        let end = push_members(alloc, &mut members, array, at + 1, None)?;
-        return Ok((Item::Object(List::from_vec(members)), end + 1));
+        let (members, end) = members_from(alloc, array, at + 1)?;
+        return Ok((Item::Object(members), end + 1));
     }
     Ok((Item::Other, next_end(bytes, at)))
+}
+
+/// The value, taken apart as an item of an array is.
+pub fn item_of(alloc: Global, value: &Raw) -> Result<Item, AllocError>
+    ensures { IfOk result (IsTakenApart value.now) }
+{
+    if !begins_with(value.as_bytes(), b'{') {
+        return Ok(Item::Other);
+    }
+    let (members, _end) = members_from(alloc, value, 1)?;
+    Ok(Item::Object(members))
+}
+
+/// The members of an object from an offset on, and the offset of the closing bracket.
+fn members_from(alloc: Global, value: &Raw, start: usize) -> Result<(Members, usize), AllocError>
+    requires { (all : Items Pair) × (rest : Items ℕ) × StandHere (drop start value.now) all rest }
+    ensures found { IfOk result (λ found. (all : Items Pair) (rest : Items ℕ)
+        → StandHere (drop start value.now) all rest
+        → (pairs found.0 ≡ all) × (drop found.1 value.now ≡ 125 ∷ rest)) }
+    ensures within { IfOk result (λ found. (start ≤ found.1) × (found.1 < length value.now)) }
+{
+    if let Some(found) = standing_from(alloc, value, start)? {
+        return Ok(found);
+    }
+    let mut members = Vec::with_capacity(alloc, FEW_MEMBERS)?;
+    let end = push_members(alloc, &mut members, value, start, None)?;
+    Ok((Members::apart(List::from_vec(members)), end))
+}
+
+/// The members of an object from an offset on by their places, and the offset of the closing
+/// bracket. `None` comes where a name has an escape, or offsets are beyond 32 bits.
+#[inline(always)]
+fn standing_from(
+    alloc: Global,
+    value: &Raw,
+    start: usize,
+) -> Result<Option<(Members, usize)>, AllocError>
+    requires { (all : Items Pair) × (rest : Items ℕ) × StandHere (drop start value.now) all rest }
+    ensures found { IfOk result (λ found. IfSome found (λ found. (all : Items Pair)
+        (rest : Items ℕ) → StandHere (drop start value.now) all rest
+        → (pairs found.0 ≡ all) × (drop found.1 value.now ≡ 125 ∷ rest))) }
+    ensures within { IfOk result (λ found. IfSome found (λ found. (start ≤ found.1)
+        × (found.1 < length value.now))) }
+{
+    let bytes = value.as_bytes();
+    if bytes.len() > u32::MAX as usize {
+        return Ok(None);
+    }
+    let mut places = Vec::with_capacity(alloc, FEW_MEMBERS)?;
+    let mut at = start;
+    while bytes[at] != b'}' {
+        let mark = run_end(bytes, at + 1);
+        if bytes[mark] != b'"' {
+            return Ok(None);
+        }
+        let colon = mark + 1;
+        let end = next_end(bytes, colon + 1);
+        places.push(Place {
+            start: at as u32,
+            colon: colon as u32,
+            end: end as u32,
+        })?;
+        at = past_comma(bytes, end);
+    }
+    Ok(Some((Members::standing(value.try_clone()?, places), at)))
 }
 
 /// Where the next item or member stands, or the closing bracket, behind the end of one.

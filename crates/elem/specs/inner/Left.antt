@@ -1,11 +1,11 @@
 -- What is left of the text of an element that is read byte by byte. Only contracts of private
 -- functions cite this.
-use Rattle.std.specs.Prelude.{◌≡◌, ℕ, ◌<◌, List, [], ◌∷◌, ◌++◌, Bool, false, map, codes, length, if◌then◌else◌, decimal}
+use Rattle.std.specs.Prelude.{◌≡◌, ℕ, ◌<◌, List, [], ◌∷◌, ◌++◌, Bool, false, map, codes, length, drop, if◌then◌else◌, decimal}
 use Rattle.json_text.specs.Characters.{quote}
 use Rattle.json_text.specs.Compact.{Member as Pair, member_text}
 use Rattle.json_text.specs.declared.text.Member.{Member}
-use Rattle.elem.specs.declared.cursor.Members.{Members as MembersLeft}
-use Rattle.elem.specs.declared.cursor.Members.TheVariants.{Open, Closed}
+use Rattle.elem.specs.declared.cursor.Left.{Left}
+use Rattle.elem.specs.declared.cursor.Left.TheVariants.{Open, Closed}
 use Rattle.elem.specs.declared.header.Header.{Header}
 use Rattle.elem.specs.declared.source.Source.{Source}
 use Rattle.elem.specs.declared.value.Value.{Value}
@@ -29,9 +29,9 @@ abbrev pub value_left : Value → List ℕ
 value_left Nothing = []
 value_left (Texts first texts) = list_left 91 93 first (map quote texts.now)
 value_left (Listing first entries) = list_left 91 93 first (map bound_text entries.now)
-value_left (Target first target rest) =
-    object_left first ((codes "elementId", quote target.now) ∷ []) rest.now
-value_left (Members rest) = object_left false [] rest.now
+value_left (Target first target rest at) =
+    object_left first ((codes "elementId", quote target.now) ∷ []) (drop at rest.now)
+value_left (Members rest at) = object_left false [] (drop at rest.now)
 
 -- the value of a member from its first byte on
 abbrev pub start_left : Start → List ℕ
@@ -42,8 +42,9 @@ abbrev pub open_left : Source → Bool → List Header → List Member → List 
 open_left source first headers rest =
     object_left first (map (header_pair source.e.now) headers) rest
 
-abbrev pub members_left : Source → MembersLeft → List ℕ
-members_left source (Open first headers rest) = open_left source first headers.now rest.now
+abbrev pub members_left : Source → Left → List ℕ
+members_left source (Open first headers rest at) =
+    open_left source first headers.now (drop at rest.now)
 members_left source Closed = []
 
 -- The numbers of the element are written in digits.

@@ -3,7 +3,6 @@
 use Rattle.std.specs.Prelude.{◌≡◌, ◌≢◌, ℕ, List, [], ◌∷◌, Option, Some, None, map, bytes_eq}
 use Rattle.std.specs.List.{AllByRecursion, IsDistinct}
 use Rattle.std.specs.List.Sorted.{IsPermutation}
-use Rattle.std.specs.Option.{option_map_or}
 use Rattle.std.specs.Str.{IsUtf8}
 use Rattle.json_text.specs.Characters.{quote}
 use Rattle.json_text.specs.Compact.{Member as Pair, array_text}
@@ -20,10 +19,6 @@ use Rattle.restore_table.specs.Merged.{merged}
 abbrev pub row_pair : Row → Pair
 row_pair row = (row.name.now, row.default.now)
 
--- the name of a member, or the empty one
-abbrev pub name_of : Option Member → List ℕ
-name_of member = option_map_or (λ member. member.name) member []
-
 -- The names rise, from this one on.
 abbrev pub RiseAfter : List ℕ → List Pair → Type 0
 RiseAfter last members = HaveRisingNames ((last, []) ∷ members)
@@ -33,6 +28,11 @@ RiseAfter last members = HaveRisingNames ((last, []) ∷ members)
 pub record IsWholeAfter (last : List ℕ) (rows members : List Pair) : Type 0 where
   pub rise : RiseAfter last members
   pub whole : merged members rows ≡ members
+
+-- Members that stay as they are: they rise, lack nothing of the table, and have no old listing.
+pub record IsWhole (members : List Pair) : Type 0 where
+  pub beside : IsWholeAfter [] defaults members
+  pub gone : value_at old_name members ≡ None
 
 -- The members in the order of their names, if these differ, with the table between them.
 pub record AreCompleted (members completed : List Member) : Type 0 where

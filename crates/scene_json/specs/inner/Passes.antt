@@ -1,6 +1,6 @@
 -- What a pass over the bytes of a text meets.
 -- Only this crate's own bodies and proofs need it.
-use Rattle.std.specs.Prelude.{◌≡◌, ◌≢◌, ◌⊎◌, ℕ, ◌+◌, ◌-◌, List, [], ◌∷◌, ◌++◌, Option, Some, All, Bool, not, ◌&&◌, ◌==◌, if◌then◌else◌, take, drop, map}
+use Rattle.std.specs.Prelude.{◌≡◌, ◌≢◌, ◌⊎◌, ℕ, ◌-◌, List, [], ◌∷◌, ◌++◌, Option, Some, All, Bool, not, ◌&&◌, ◌==◌, if◌then◌else◌, take, drop, map}
 use Rattle.std.specs.List.{AllByRecursion}
 use Rattle.std.specs.Str.{IsUtf8}
 use Rattle.json_text.specs.Characters.{quotation_mark, backslash}

@@ -27,11 +27,11 @@ pub put_value-requires : goal.put_value-requires
 put_value-requires c = binding-rise (found (goal.at.put_value-requires c).In_ok-rest)
 
 made : (c : goal.After-drop-name-inside-2) → (f : IsFound c.args.value.now c.in_ok-rest.rest.items)
-    → f.binding ≡ record { target = c.in_ok-target.target; rest = c.from_vec.result }
+    → f.binding ≡ record { target = c.in_ok-target.target; rest = c.in_ok-further.further }
 made c f =
-    binding-made f c.in_ok-target.target c.from_vec.result
+    binding-made f c.in_ok-target.target c.in_ok-further.further
     (ap (λ name. value_named name c.in_ok-rest.rest.items) (sym c.in_ok-name.ensures) ∙ c.in_ok-target.ensures)
-    (c.from_vec.ensures ∙ c.in_ok-put_value.ensures
+    (c.in_ok-further.ensures ∙ c.from_vec.ensures ∙ c.in_ok-put_value.ensures
     ∙ ap (λ name. with_value name None c.in_ok-rest.rest.items) c.in_ok-name.ensures)
 
 pub returns-clause-text : goal.returns-clause-text

@@ -22,7 +22,7 @@ made : (c : In_ok-put_value) → c.put_value.new.members.items
 made c =
     c.in_ok-put_value.ensures
     ∙ ap (λ ms. with_value c.in_ok-name.name (Some c.in_ok-target.target) ms) (c.into_vec-members.ensures
-    ∙ c.in_ok-try_clone_with.ensures)
+    ∙ c.in_ok-to_list.ensures)
     ∙ ap (λ name. with_value name (Some c.in_ok-target.target) c.in-Some.binding.rest) c.in_ok-name.ensures
     ∙ ap (λ v. with_value (codes "elementId") (Some v) c.in-Some.binding.rest) c.in_ok-target.ensures.quote
 

@@ -11,8 +11,8 @@ pub note-requires-clause-free : goal.note-requires-clause-free
 note-requires-clause-free c =
     free-at (λ name. list_any (bytes_eq name) other_names) c.as_slice-member-items.result.now c.loop-member.member-index
     c.member-item.result
-    (ap (λ ms. list_any (λ name. list_any (bytes_eq name) other_names) (names ms)) c.as_slice-member-items.ensures
-    ∙ c.requires.free) (omega arith) (cc)
+    (ap (λ ms. list_any (λ name. list_any (bytes_eq name) other_names) (names ms)) (c.as_slice-member-items.ensures
+    ∙ c.in_ok-list.ensures) ∙ c.requires.free) (omega arith) (cc)
 
 pub loop-member-preserved : goal.loop-member-preserved
 loop-member-preserved c =
@@ -33,5 +33,5 @@ returns c =
     let i = c.loop-member.member-index in
     let all : length ms ≤ i = omega arith in
     subst (λ xs. AreChangesOf c.args.old.now c.args.new.now (known ++ names xs) c.loop-member.changes.items)
-    (take_all _ _ all ∙ c.as_slice-member-items.ensures)
+    (take_all _ _ all ∙ c.as_slice-member-items.ensures ∙ c.in_ok-list.ensures)
     (c.loop-member.invariant known told)

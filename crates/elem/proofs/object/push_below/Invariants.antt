@@ -1,10 +1,11 @@
 -- The members that were passed are appended, and the others are left.
-use Rattle.std.proofs.Common.{length}
+use Rattle.std.proofs.Common.{length, drop}
 use Rattle.elem.proofs.Merging.{Passed}
 use Rattle.elem.proofs.object.push_below.Given as goal
 
-abbrev pub invariant-loop-member : goal.invariant-loop-member
-invariant-loop-member l = Passed l.name l.start l.initial.out.items l.out.items l.members l.left
+abbrev pub invariant-loop-next : goal.invariant-loop-next
+invariant-loop-next l =
+    Passed l.name l.start l.initial.out.items l.out.items (drop l.at l.members) (drop l.left l.members)
 
-abbrev pub decreases-loop-member : goal.decreases-loop-member
-decreases-loop-member l = length l.left
+abbrev pub decreases-loop-next : goal.decreases-loop-next
+decreases-loop-next l = length (drop l.left l.members)

@@ -1,49 +1,44 @@
-use Rattle.std.proofs.Common.{◌<◌, ◌++◌, length, take_all, sym, ap, ◌∙◌, subst, append-nil, refl, arith}
-use Rattle.std.specs.Str.{IsUtf8}
-use Rattle.std.proofs.lemmas.List.Elements.{All-more, All-same, All-nil}
-use Rattle.json_text.specs.Compact.{member_text}
-use Rattle.json_text.specs.Members.{pairs, pair_of}
+use Rattle.std.proofs.Common.{◌≡◌, ◌<◌, ◌+◌, [], length, drop, drop_of_length-le, subst, arith}
+use Rattle.std.proofs.lemmas.List.{drop_more}
 use Rattle.json_text.specs.declared.text.Member.{Member}
-use Rattle.elem.specs.inner.Printing.{IsBegun}
-use Rattle.elem.proofs.Appending.{extends_same, extends_by, extends_then}
-use Rattle.elem.proofs.Merging.{opened-step, members-more}
+use Rattle.members.specs.Standing.{nth}
+use Rattle.elem.proofs.Appending.{extends_then}
+use Rattle.elem.proofs.Merging.{Appended, Parted, parted-none, parted-more, parted-all}
 use Rattle.elem.proofs.object.push_members.Goals as goal
+use Rattle.elem.proofs.object.push_members.Goals.{After-loop-i}
 
-pub loop-member-init : goal.loop-member-init
-loop-member-init c = record {
-  begun = λ before first at is. subst (λ ms. IsBegun before ms c.args.out.now.items) (sym (append-nil first)) is;
-  kept = extends_same _ _ refl;
-  named = All-nil (λ (m : Member). IsUtf8 m.name);
-}
+pub loop-i-init : goal.loop-i-init
+loop-i-init c = parted-none c.args.start c.args.out.now.items (drop c.args.at c.args.members.now)
 
-pub loop-member-preserved : goal.loop-member-preserved
-loop-member-preserved c =
+pub loop-i-preserved : goal.loop-i-preserved
+loop-i-preserved c =
     let ms = c.args.members.now in
-    let m = c.member-item.result in
-    let inside : c.loop-member.member-index < length ms = omega arith in
-    record {
-      begun = λ before first at is.
-          subst (λ all. IsBegun before all c.push_member.new.out.items)
-          (members-more ms m c.loop-member.member-index inside c.member-item.is first)
-          (opened-step before _ (pair_of m) c.args.start c.loop-member.out.items c.push_member.new.out.items at
-          (c.loop-member.invariant.begun before first at is)
-          (c.in_ok-push_member.ensures.ok ∙ ap (λ o. o ++ member_text (pair_of m)) c.in_ok-push_mark.ensures.ok));
-      kept = extends_then _ _ _ c.loop-member.invariant.kept
-          (extends_then _ _ _ (extends_by _ _ _ c.in_ok-push_mark.ensures.ok)
-          (extends_by _ _ _ c.in_ok-push_member.ensures.ok));
-      named =
-          All-more (λ (m : Member). IsUtf8 m.name) ms c.loop-member.member-index m inside c.loop-member.invariant.named
-          (subst (λ (m : Member). IsUtf8 m.name) c.member-item.is c.in_ok-push_member.ensures.utf8);
-    }
+    let i = c.loop-i.i in
+    let inside : i < length ms = omega arith in
+    let none : Member = record { name = []; value = [] } in
+    parted-more c.args.start c.args.out.now.items c.loop-i.out.items c.push_kept.new.out.items
+    (drop c.args.at ms) (drop (i + 1) ms) (nth ms i)
+    (subst (Parted c.args.start c.args.out.now.items c.loop-i.out.items (drop c.args.at ms))
+    (drop_more ms i none inside) c.loop-i.invariant)
+    c.in_ok-push_kept.ensures.utf8 c.in_ok-push_kept.ensures.begun c.in_ok-push_kept.ensures.kept
+
+pub returns-in_err-push_kept-clause-kept : goal.returns-in_err-push_kept-clause-kept
+returns-in_err-push_kept-clause-kept c =
+    extends_then _ _ _ c.loop-i.invariant.are.kept c.in_err-push_kept.ensures.kept
+
+all : (c : After-loop-i)
+    → Appended c.args.start c.args.out.now.items c.loop-i.out.items (drop c.args.at c.args.members.now)
+all c =
+    let ms = c.args.members.now in
+    let done : drop c.loop-i.i ms ≡ [] = drop_of_length-le ms (omega arith) in
+    parted-all c.args.start c.args.out.now.items c.loop-i.out.items (drop c.args.at ms) (drop c.loop-i.i ms)
+    c.loop-i.invariant done
 
 pub returns-clause-begun : goal.returns-clause-begun
-returns-clause-begun c = λ before first at is.
-    subst (λ ms. IsBegun before (first ++ pairs ms) c.loop-member.out.items)
-    (take_all c.loop-member.member-index c.args.members.now c.loop-member-test.false)
-    (c.loop-member.invariant.begun before first at is)
+returns-clause-begun c = (all (goal.at.returns-clause-begun c).After-loop-i).begun
 
 pub returns-clause-named : goal.returns-clause-named
-returns-clause-named c =
-    All-same (λ (m : Member). IsUtf8 m.name) c.args.members.now _
-    (sym (take_all c.loop-member.member-index c.args.members.now c.loop-member-test.false))
-    c.loop-member.invariant.named
+returns-clause-named c = (all (goal.at.returns-clause-named c).After-loop-i).named
+
+pub returns-clause-kept : goal.returns-clause-kept
+returns-clause-kept c = (all (goal.at.returns-clause-kept c).After-loop-i).kept

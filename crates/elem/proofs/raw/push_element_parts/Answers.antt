@@ -25,7 +25,7 @@ loop-header-init c =
     let out = c.args.out.now.items in
     let is = subst IsElement c.e.view_is c.e.invariant in
     let headers = c.headers_of-header-items.ensures ∙ ap (λ e. headers_of e.kind) c.e.view_is in
-    let rest = c.as_slice-rest.ensures ∙ ap (λ e. e.rest) c.e.view_is in
+    let rest = c.as_members-rest.ensures ∙ ap (λ e. e.rest) c.e.view_is in
     rw (headers, rest) (merging-from 119 out (header_pairs e e.kind) e.rest
     (pairs-each (λ (m : Pair). IsCompact 119 m.1) e.rest is.nest))
 
@@ -45,13 +45,14 @@ loop-header-preserved c =
     let h = get_or hs i BoundElements in
     let low = c.push_below.new.out.items in
     let at : c.len-start.result ≡ length out = search rules in
+    let left = drop c.loop-header.at c.as_members-rest.result.now in
     let name : c.name.result.now ≡ header_name h = c.name.ensures in
     let here = more e hs BoundElements i (omega arith) in
-    let so_far = subst (λ ps. Merging 119 out c.loop-header.out.items ps c.loop-header.rest.now (header_pairs e e.kind)
+    let so_far = subst (λ ps. Merging 119 out c.loop-header.out.items ps left (header_pairs e e.kind)
     e.rest) here c.loop-header.invariant in
-    let below = rw name at c.in_ok-rest.ensures in
+    let below = rw name at c.in_ok-at.ensures in
     merging-step 119 out c.loop-header.out.items low c.push_header.new.out.items (header_pair e h)
-    (map (header_pair e) (drop (i + 1) hs)) c.loop-header.rest.now c.in_ok-rest.rest.now (header_pairs e e.kind)
+    (map (header_pair e) (drop (i + 1) hs)) left (drop c.in_ok-at.at c.as_members-rest.result.now) (header_pairs e e.kind)
     e.rest
     so_far (λ first is. below.begun out first at is) below.left
     (recursion_from_All (λ (m : Member). IsUtf8 m.name) _ below.named)
@@ -66,13 +67,14 @@ all c =
     let out = c.args.out.now.items in
     let hs = c.headers_of-header-items.result.now in
     let at : c.len-start.result ≡ length out = search rules in
+    let left = drop c.loop-header.at c.as_members-rest.result.now in
     let none : map (header_pair e) (drop c.loop-header.header-index hs) ≡ [] =
     ap (map (header_pair e)) (drop_of_length-le hs c.loop-header-test.false) in
-    let so_far = subst (λ ps. Merging 119 out c.loop-header.out.items ps c.loop-header.rest.now (header_pairs e e.kind)
+    let so_far = subst (λ ps. Merging 119 out c.loop-header.out.items ps left (header_pairs e e.kind)
     e.rest) none c.loop-header.invariant in
     subst (Merged 119 out c.push.new.self.items) (merged-element e (valid c))
     (merging-closed 119 out c.loop-header.out.items c.push_members.new.out.items c.push.new.self.items
-    c.loop-header.rest.now (header_pairs e e.kind) e.rest so_far
+    left (header_pairs e e.kind) e.rest so_far
     (λ first is. c.in_ok-push_members.ensures.begun out first at is)
     (recursion_from_All (λ (m : Member). IsUtf8 m.name) _ c.in_ok-push_members.ensures.named)
     c.in_ok-push.ensures.items ((length-members e)))
@@ -89,16 +91,16 @@ returns-clause-rise c =
     are_rising-from (element_members c.args.e.now)
     (element-rises c.args.e.now (valid (goal.at.returns-clause-rise c).In_ok-push))
 
-pub returns-in_err-rest-clause-kept : goal.returns-in_err-rest-clause-kept
-returns-in_err-rest-clause-kept c =
+pub returns-in_err-at-clause-kept : goal.returns-in_err-at-clause-kept
+returns-in_err-at-clause-kept c =
     on_err c.from_residual.result (extends_then _ _ _ (extends_by _ _ _ c.loop-header.invariant.begun)
-    c.in_err-rest.ensures.kept)
+    c.in_err-at.ensures.kept)
 
 pub returns-in_err-push_header-clause-kept : goal.returns-in_err-push_header-clause-kept
 returns-in_err-push_header-clause-kept c =
     on_err c.from_residual-in_err-push_header.result
     (extends_then _ _ _ (extends_by _ _ _ c.loop-header.invariant.begun)
-    (extends_then _ _ _ c.in_ok-rest.ensures.kept c.in_err-push_header.ensures.kept))
+    (extends_then _ _ _ c.in_ok-at.ensures.kept c.in_err-push_header.ensures.kept))
 
 pub returns-in_err-push_members-clause-kept : goal.returns-in_err-push_members-clause-kept
 returns-in_err-push_members-clause-kept c =

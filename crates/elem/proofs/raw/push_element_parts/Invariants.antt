@@ -7,5 +7,6 @@ use Rattle.elem.proofs.raw.push_element_parts.Given as goal
 
 abbrev pub invariant-loop-header : goal.invariant-loop-header
 invariant-loop-header l =
-    Merging 119 l.initial.out.items l.out.items (map (header_pair l.e) (drop l.header-index l.header-items)) l.rest
+    Merging 119 l.initial.out.items l.out.items (map (header_pair l.e) (drop l.header-index l.header-items))
+    (drop l.at l.rest)
     (header_pairs l.e l.e.kind) l.e.rest

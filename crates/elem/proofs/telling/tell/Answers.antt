@@ -1,4 +1,4 @@
-use Rattle.std.proofs.Common.{subst, sym}
+use Rattle.std.proofs.Common.{subst}
 use Rattle.elem.specs.Facts.{IsElement}
 use Rattle.elem.specs.Said.{HasValidTexts}
 use Rattle.elem.proofs.telling.tell.Goals as goal
@@ -18,5 +18,5 @@ returns-clause-is_written c = subst HasValidTexts c.e.view_is (record {
   start_binding = c.tell_binding.ensures;
   end_binding = c.tell_binding-2.ensures;
   file = c.tell_optional-3.ensures;
-  rest = rw (sym c.as_list.ensures) c.tell_names.ensures;
+  rest = c.tell_names.ensures;
 })

@@ -1,21 +1,37 @@
-use Rattle.std.proofs.Common.{◌≡◌, ◌||◌, List, ℕ, Bool, not, bytes_eq, rules, sym, subst, ◌∙◌}
-use Rattle.std.specs.List.{list_any}
-use Rattle.std.proofs.lemmas.Fn.{filter_same}
-use Rattle.json_text.specs.declared.text.Member.{Member}
-use Rattle.elem.specs.Facts.{header_names, is_header}
-use Rattle.elem_read.proofs.Others.{kept, kept-alone}
+use Rattle.std.proofs.Common.{◌+◌, ◌<◌, length, take, drop, sym, ap, ◌∙◌, arith, length-append, length-take, length-drop}
+use Rattle.elem.specs.Facts.{is_header}
+use Rattle.elem_read.proofs.Others.{passed, passed-all, passed-kept, passed-removed}
 use Rattle.elem_read.proofs.kinds.drop_headers.Goals as goal
 
-pub returns-then-has_own : goal.returns-then-has_own
-returns-then-has_own c =
-    filter_same _ (λ (m : Member). not (is_header c.args.kind.now m.name)) _ (λ x b f' k. search rules) _ _
-    c.retain.ensures.filtered
+pub loop-at-preserved-then-is_header : goal.loop-at-preserved-then-is_header
+loop-at-preserved-then-is_header c =
+    let inside : c.loop-at.at < length c.loop-at.members = omega (arith, c.loop-at-test.true, c.len.ensures) in
+    let has = rw c.name.ensures.value at (sym c.is_header.ensures ∙ c.if-is_header.true) in
+    ap (passed (is_header c.args.kind.now) c.loop-at.at) c.remove.ensures
+    ∙ passed-removed (is_header c.args.kind.now) c.loop-at.at (c.loop-at.at + 1) c.loop-at.members (omega arith) inside has
+    ∙ c.loop-at.invariant
 
-pub returns-else-has_own : goal.returns-else-has_own
-returns-else-has_own c =
-    let ms = c.args.members.now.items in
-    let common : List ℕ → Bool = λ name. list_any (bytes_eq name) header_names in
-    filter_same _ (λ (m : Member). not (common m.name)) _ (λ x b f' k. search rules) _ _
-    c.retain-else-has_own.ensures.filtered
-    ∙ subst (λ (names : List (List ℕ)). kept common ms ≡ kept (λ name. common name || list_any (bytes_eq name) names)
-    ms) (sym (c.has_own.ensures c.if-has_own.false)) (kept-alone common ms)
+pub loop-at-smaller-then-is_header : goal.loop-at-smaller-then-is_header
+loop-at-smaller-then-is_header c =
+    omega (
+      arith,
+      c.loop-at-test.true,
+      c.len.ensures,
+      ap length c.remove.ensures,
+      length-append (take c.loop-at.at c.loop-at.members) (drop (c.loop-at.at + 1) c.loop-at.members),
+      length-take c.loop-at.at c.loop-at.members,
+      length-drop (c.loop-at.at + 1) c.loop-at.members,
+    )
+
+pub loop-at-preserved : goal.loop-at-preserved
+loop-at-preserved c =
+    let inside : c.loop-at.at < length c.loop-at.members = omega (arith, c.loop-at-test.true, c.len.ensures) in
+    let lacks = rw c.name.ensures.value at (sym c.is_header.ensures ∙ c.if-is_header.false) in
+    passed-kept (is_header c.args.kind.now) c.loop-at.at (c.loop-at.at + 1) c.loop-at.members (omega arith) inside lacks
+    ∙ c.loop-at.invariant
+
+pub returns : goal.returns
+returns c =
+    sym (passed-all (is_header c.args.kind.now) c.loop-at.at c.loop-at.members
+    (omega (arith, c.loop-at-test.false, c.len.ensures)))
+    ∙ c.loop-at.invariant

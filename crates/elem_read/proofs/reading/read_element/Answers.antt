@@ -1,6 +1,4 @@
-use Rattle.std.proofs.lemmas.Option.{MatchOption-at_some}
 use Rattle.elem_read.proofs.reading.read_element.Goals as goal
 
-pub read_members-requires : goal.read_members-requires
-read_members-requires c =
-    (c.args.value.now, MatchOption-at_some _ _ c.in-Some.given c.in-Some.is c.in_ok-given.ensures)
+pub read_item-requires : goal.read_item-requires
+read_item-requires c = (c.args.value.now, c.in_ok-item.ensures)

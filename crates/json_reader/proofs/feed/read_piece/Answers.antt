@@ -33,5 +33,5 @@ returns-in-Ok-Ended-clause-fed c =
     let up = late_ended rest piece bytes is c.requires.kept c.in-Ok-Ended.value end came in
     ended_fed rest piece bytes (is ∙ sym (behind_on rest piece c.requires.kept.begun
     (λ (none : rest ≡ []). grind (arith, common_steps, none, c.is_empty.ensures, c.if-is_empty.false))))
-    c.in-Ok-Ended.value end (end - c.len-before.result) _ c.clear.ensures.items came
+    c.in-Ok-Ended.value end (end - c.len-before.result) _ c.new.ensures.items came
     (omega (arith, up, ap length is, length-append rest piece))

@@ -1,18 +1,17 @@
 use Rattle.std.proofs.Common.{◌++◌, ap, sym, subst, ◌∙◌}
 use Rattle.json_text.specs.Compact.{object_text}
-use Rattle.json_text.specs.Members.{pairs}
 use Rattle.json_text.specs.Parts.{AreMembers}
 use Rattle.json_text.proofs.CallerLemmas.{drop-after}
 use Rattle.scene_json.specs.inner.Passes.{EndsAt}
 use Rattle.scene_json.proofs.FirstBytes.{inside, object-here, object-first}
-use Rattle.scene_json.proofs.MembersLeft.{object-opened, all-ended}
+use Rattle.scene_json.proofs.MembersLeft.{object-opened}
 use Rattle.scene_json.proofs.parts.item_at.Goals as goal
 
 pub bounds-bytes-at : goal.bounds-bytes-at
 bounds-bytes-at c = rw c.as_bytes-bytes.ensures.value (inside c.args.array.now c.args.at c.requires.2)
 
-pub push_members-requires : goal.push_members-requires
-push_members-requires c =
+pub members_from-requires : goal.members_from-requires
+members_from-requires c =
     let object = object-here c.args.array.now c.args.at c.requires.2
     (rw (← c.as_bytes-bytes.ensures.value) c.if-bytes-at-eq123.true) in (
       object.0,
@@ -26,13 +25,10 @@ returns-then-bytes-at-eq123-clause-item c =
     λ item rest here.
     let object =
     object-here c.args.array.now c.args.at here (rw (← c.as_bytes-bytes.ensures.value) c.if-bytes-at-eq123.true) in
-    let f = c.in_ok-end.ensures.found object.0 rest (object-opened c.args.array.now c.args.at object.0 rest object.1
-    (here.parts ∙ ap (λ item. item ++ rest) object.2)) in
-    let ended = all-ended f.2 in
-    let all =
-    ap pairs c.from_vec.ensures ∙ f.1 ∙ ap (λ ms. pairs ms ++ f.0) c.in_ok-members.ensures.items ∙ ended.0 in (
-      (subst (AreMembers 127) (sym all) object.1, object.2 ∙ ap object_text (sym all)),
-      drop-after c.args.array.now c.in_ok-end.end ended.1,
+    let f = c.in_ok-members.ensures.found object.0 rest (object-opened c.args.array.now c.args.at object.0 rest object.1
+    (here.parts ∙ ap (λ item. item ++ rest) object.2)) in (
+      (subst (AreMembers 127) (sym f.0) object.1, object.2 ∙ ap object_text (sym f.0)),
+      drop-after c.args.array.now c.in_ok-members.end f.1,
     )
 
 pub returns-clause-item : goal.returns-clause-item

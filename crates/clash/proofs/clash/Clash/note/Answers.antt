@@ -1,4 +1,4 @@
-use Rattle.std.proofs.Common.{sym, ◌∙◌}
+use Rattle.std.proofs.Common.{[], ◌∷◌, ◌++◌, sym, ap, ◌∙◌}
 use Rattle.std.proofs.lemmas.Option.{none-some}
 use Rattle.clash.proofs.FirstLaws.{clash-told, firsts_with-found}
 use Rattle.clash.proofs.MarkLaws.{found-first, found-none}
@@ -25,3 +25,11 @@ returns-in_ok-add-in-None-clause-clash c = λ first found.
     absurd
     (none-some first (sym (found-none s.firsts.items s.places.entries c.in_ok-mark.mark c.args.e.now
     c.self.invariant c.in_ok-mark.ensures c.in-None.ensures) ∙ rw (← c.self.view_is) at found))
+
+pub returns-in_ok-add-in-None-clause-noted : goal.returns-in_ok-add-in-None-clause-noted
+returns-in_ok-add-in-None-clause-noted c =
+    let s = c.self.inside in
+    let none = found-none s.firsts.items s.places.entries c.in_ok-mark.mark c.args.e.now
+    c.self.invariant c.in_ok-mark.ensures c.in-None.ensures in
+    rw (← c.self.view_is, none) (c.in_ok-add-in-None.ensures.firsts
+    ∙ ap (λ e. s.firsts.items ++ e ∷ []) c.in_ok-try_clone-in-None.ensures)

@@ -1,0 +1,6 @@
+-- The first members are equal.
+use Rattle.std.proofs.Common.{◌≡◌, take}
+use Rattle.elem.proofs.compare.same_members.Given as goal
+
+abbrev pub invariant-loop-at : goal.invariant-loop-at
+invariant-loop-at l = take l.at l.members ≡ take l.at l.others

@@ -1,0 +1,2 @@
+-- What only this crate's own bodies and proofs need.
+pub mod Held
