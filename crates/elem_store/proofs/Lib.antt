@@ -7,6 +7,7 @@ pub mod StoreLaws
 pub mod Edits
 pub mod Placed
 mod MovedOut
+mod Wanted
 mod Given
 pub mod Stored
 pub mod Woven

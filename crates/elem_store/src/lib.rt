@@ -1,6 +1,7 @@
 //! The store of a board: the best element of each id.
 #![tactic(auto)]
 
+mod arranging;
 mod indexed;
 pub mod laws;
 mod places;

@@ -5,8 +5,9 @@ ghost use Rattle.elem.specs.Order as order;
 ghost use Rattle.board_base.specs.Fronts.{front_of};
 ghost use Rattle.elem_store.specs.inner.Indexed.{woven, AreAside, AreGaps};
 ghost use Rattle.elem_store.specs.Places.{elements_at, AreInOrder, IsAt, IsGapFor};
-ghost use Rattle.elem_store.specs.inner.Places.{slot_at, with_empty_at, IsBetween};
+ghost use Rattle.elem_store.specs.inner.Places.{IsBetween};
 
+use crate::arranging::arranged;
 use crate::indexed::{Late, Places};
 use crate::shelf::Shelf;
 use board_base::{Front, front_of};
@@ -174,22 +175,20 @@ pub(crate) fn moved_out(
     ensures { IfOk result (λ moved. moved.items ≡ filter_map
         (slice_get (elements_at elements.items places.now.places)) indices.now) }
 {
-    let mut slots = elements.into_slots(alloc)?;
-    let mut moved = Vec::with_capacity(alloc, indices.len())?;
-    for i in indices {
-        if let Some(e) = take_at(&mut slots, places, *i) {
-            moved.push(e)?;
-        }
-    }
-    Ok(moved)
+    let wanted = places_of(alloc, places, indices)?;
+    arranged(alloc, elements.into_vec(), wanted)
 }
 
-/// Takes out what is in the slot at the place of this index.
-fn take_at(slots: &mut Vec<Option<Element>>, places: &Places, i: usize) -> Option<Element>
-    ensures taken { result ≡ slot_at slots.old.items (slice_get places.now.places i) }
-    ensures left { slots.new.items
-        ≡ with_empty_at slots.old.items (slice_get places.now.places i) }
+/// The places at these indices, in the order of the indices; an index past the places has none.
+fn places_of(alloc: Global, places: &Places, indices: &[usize]) -> Result<Vec<usize>, AllocError>
+    ensures { IfOk result (λ wanted. wanted.items
+        ≡ filter_map (slice_get places.now.places) indices.now) }
 {
-    let place = places.get(i)?;
-    slots.get_mut(place)?.take()
+    let mut wanted = Vec::with_capacity(alloc, indices.len())?;
+    for i in indices {
+        if let Some(place) = places.get(*i) {
+            wanted.push(place)?;
+        }
+    }
+    Ok(wanted)
 }

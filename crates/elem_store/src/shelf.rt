@@ -1,6 +1,6 @@
 //! Elements as they came, with the first bytes of their ids beside them.
 
-ghost use Rattle.std.specs.Prelude.{◌≡◌, ◌+◌, ◌-◌, ◌<◌, ◌≤◌, [], ◌∷◌, ◌++◌, length, slice_get, slice_set, option_copied, map, Some, IfSome, IfOk, IfErr, OnOk, IsOk};
+ghost use Rattle.std.specs.Prelude.{◌≡◌, ◌+◌, ◌-◌, ◌<◌, ◌≤◌, [], ◌∷◌, ◌++◌, length, slice_get, slice_set, option_copied, IfSome, IfErr, OnOk, IsOk};
 ghost use Rattle.board_base.specs.Fronts.{front_of};
 ghost use Rattle.elem.specs.Facts.{IsElement};
 ghost use Rattle.elem_store.specs.inner.Places as places;
@@ -147,28 +147,6 @@ impl Shelf {
         self.fronts[place] = front_of(e.id.as_bytes());
         self.elements[place] = e;
     }
-
-    /// The elements, each in a slot that it can be taken out of.
-    pub(crate) fn into_slots(self, alloc: Global) -> Result<Vec<Option<Element>>, AllocError>
-        ensures { IfOk result (λ slots. slots.items ≡ map Some self.items) }
-    {
-        let Shelf {
-            elements,
-            fronts: _fronts,
-        } = self;
-        in_slots(alloc, elements)
-    }
-}
-
-/// Elements, each in a slot that it can be taken out of.
-fn in_slots(alloc: Global, elements: Vec<Element>) -> Result<Vec<Option<Element>>, AllocError>
-    ensures { IfOk result (λ slots. slots.items ≡ map Some elements.items) }
-{
-    let mut slots = Vec::with_capacity(alloc, elements.len())?;
-    for e in elements {
-        slots.push(Some(e))?;
-    }
-    Ok(slots)
 }
 
 /// The front at a place.

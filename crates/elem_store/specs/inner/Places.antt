@@ -1,9 +1,9 @@
 -- How a store keeps its elements: as they came, beside their places in the order of their ids. This
 -- project's own.
 -- Only this crate's own bodies and proofs need it.
-use Rattle.std.specs.Prelude.{◌≡◌, ℕ, ◌<◌, ◌≤◌, List, Option, None, length, slice_get, slice_index_or, slice_set}
+use Rattle.std.specs.Prelude.{◌≡◌, ℕ, ◌<◌, ◌≤◌, List, length, slice_get, slice_index_or}
 use Rattle.std.specs.Cmp.Lexicographic.{slice_cmp}
-use Rattle.std.specs.Option.{option_and_then, option_map_or}
+use Rattle.std.specs.Option.{option_map_or}
 use Rattle.std.specs.Ordering.{nat_cmp}
 use Rattle.std.specs.declared.cmp.Ordering.{Ordering}
 use Rattle.std.specs.declared.cmp.Ordering.TheVariants.{Less, Greater}
@@ -23,10 +23,3 @@ pub record IsBetween (elements : List ElementValue) (places : List ℕ) (id : Li
   pub less : (k d : ℕ) → k < low → order_at elements id (slice_index_or places k d) ≡ Less
   pub greater : (k d : ℕ) → high ≤ k → k < length places
       → order_at elements id (slice_index_or places k d) ≡ Greater
-
--- what is in the slot at a place, if there is one, and the slots where nothing is in it
-abbrev pub slot_at : List (Option ElementValue) → Option ℕ → Option ElementValue
-slot_at slots place = option_and_then (λ place. slice_index_or slots place None) place
-
-abbrev pub with_empty_at : List (Option ElementValue) → Option ℕ → List (Option ElementValue)
-with_empty_at slots place = option_map_or (λ place. slice_set slots place None) place slots
