@@ -16,6 +16,6 @@ pub use content::{content_of, text_at};
 pub use first::first_occurrences;
 pub use quote_bytes::QuoteBytes;
 pub use quotes::{push_quote, push_quoted, whole_or_cut};
-pub use runs::{bare_end, digits_end, inert_end, quiet_end, run_end};
-pub use space::{is_space, skip_space};
+pub use runs::{bare_end, digits_end, inert_end, quiet_end, run_end, skip_space};
+pub use space::is_space;
 pub use text::{FEW_MEMBERS, Member, Raw, Text};

@@ -3,8 +3,9 @@
 ghost use Rattle.std.specs.Prelude.{◌≡◌, ℕ, ◌+◌, ◌≤◌, Bool, not, map, drop, length};
 ghost use Rattle.std.specs.List.{prefix_len};
 ghost use Rattle.std.specs.Simd.Lanes.{mask_l};
-ghost use Rattle.json_text.specs.Characters.{is_plain, is_bare, is_digit, is_inert, is_quiet};
+ghost use Rattle.json_text.specs.Characters.{is_plain, is_bare, is_digit, is_inert, is_quiet, is_space};
 
+use crate::space::is_space;
 use std::simd::prelude::*;
 
 /// A class of bytes.
@@ -71,6 +72,26 @@ impl Class for Digit {
     #[inline(always)]
     fn others(bytes: u8x16) -> u64 {
         (bytes.simd_lt(u8x16::splat(b'0')) | bytes.simd_ge(u8x16::splat(58))).to_bitmask()
+    }
+}
+
+/// White space.
+struct Space;
+
+impl Class for Space {
+    ghost holds = { is_space };
+
+    #[inline(always)]
+    fn has(byte: u8) -> bool {
+        is_space(byte)
+    }
+
+    #[inline(always)]
+    fn others(bytes: u8x16) -> u64 {
+        (bytes.simd_ne(u8x16::splat(b' '))
+            & bytes.simd_ne(u8x16::splat(b'\n'))
+            & bytes.simd_ne(u8x16::splat(b'\r'))
+            & bytes.simd_ne(u8x16::splat(b'\t'))).to_bitmask()
     }
 }
 
@@ -146,6 +167,15 @@ pub fn digits_end(bytes: &[u8], at: usize) -> usize
     ensures within { (at ≤ result) × (result ≤ length bytes.now) }
 {
     end_of::<Digit>(bytes, at)
+}
+
+/// Where the first byte stands from an offset on that isn't white space, or the length.
+#[inline(always)]
+pub fn skip_space(bytes: &[u8], at: usize) -> usize
+    requires { at ≤ length bytes.now }
+    ensures { result ≡ at + prefix_len is_space (drop at bytes.now) }
+{
+    end_of::<Space>(bytes, at)
 }
 
 /// Where the first quotation mark, bracket or comma stands from an offset on.
