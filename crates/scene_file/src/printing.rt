@@ -29,6 +29,12 @@ use std::alloc::{AllocError, Global};
 /// No element's text has fewer bytes.
 const LEAST_TEXT: usize = 128;
 
+/// Mostly the header members of an element take fewer bytes.
+const HEADER_TEXT: usize = 320;
+
+/// One of so many elements is looked at.
+const SAMPLED: usize = 16;
+
 /// The text of the scene of these elements, under this head, in this layout; no line feed ends it.
 /// Fails only for want of memory.
 pub fn elements_text(
@@ -39,7 +45,7 @@ pub fn elements_text(
 ) -> Result<Bytes, AllocError>
     ensures { IfOk result (IsSceneText layout head.now elements.now) }
 {
-    let mut out = Vec::new(alloc);
+    let mut out = with_room(alloc, texts_room(elements));
     match layout {
         Layout::Compact => {
             push_scene(&mut out, head, elements)?;
@@ -77,6 +83,38 @@ fn push_scene(out: &mut Vec<u8>, head: &Head, elements: &[Element]) -> Result<()
     push_elements(out, elements)?;
     push_back(out, &head.app_state, &files)?;
     Ok(())
+}
+
+/// Nothing, with room for so many bytes; with none where there is no memory for so many, since fewer
+/// may do.
+fn with_room(alloc: Global, room: usize) -> Vec<u8>
+    ensures { result.items ≡ [] }
+{
+    match Vec::with_capacity(alloc, room) {
+        Ok(out) => out,
+        Err(_) => Vec::new(alloc),
+    }
+}
+
+/// About as many bytes as the texts of the elements take, by the members of some of them: mostly a
+/// few more, so that the text needn't be moved while it grows.
+fn texts_room(elements: &[Element]) -> usize {
+    let mut room: usize = 0;
+    for e in elements.iter().step_by(SAMPLED) {
+        room = room.saturating_add(text_room(e));
+    }
+    room.saturating_mul(SAMPLED)
+}
+
+/// About as many bytes as the text of the element takes.
+fn text_room(e: &Element) -> usize {
+    let members = e.rest.as_members();
+    let mut room = HEADER_TEXT;
+    for at in 0..members.len() {
+        room = room.saturating_add(members.name(at).len());
+        room = room.saturating_add(members.value_len(at).saturating_add(4));
+    }
+    room
 }
 
 /// Writes the text of the scene of these elements, each member and item on a line of its own.

@@ -8,7 +8,7 @@ pub returns-in_ok-push_scene-in-Compact : goal.returns-in_ok-push_scene-in-Compa
 returns-in_ok-push_scene-in-Compact c =
     rw c.in-Compact.is
     (c.from_vec.ensures ∙ c.in_ok-push_scene-in-Compact.ensures.text
-    ∙ ap (λ out. out ++ scene_text c.args.head.now c.args.elements.now) c.new-out.ensures.items)
+    ∙ ap (λ out. out ++ scene_text c.args.head.now c.args.elements.now) c.with_room-out.ensures)
 
 pub returns-in_ok-push_scene_lines-in-Pretty : goal.returns-in_ok-push_scene_lines-in-Pretty
 returns-in_ok-push_scene_lines-in-Pretty c =
