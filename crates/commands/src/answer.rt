@@ -24,6 +24,7 @@ use scene_file::{Head, Layout, Scene, elements_text, join, state_text};
 use session::{replay, report_text};
 use session_text::Session;
 use std::alloc::{AllocError, Global};
+use std::mem::forget;
 use view::{into_shown, shown_elements};
 
 /// The text that the command answers the input with, which is read to its end.
@@ -87,7 +88,7 @@ fn restored_text(alloc: Global, scene: Scene, layout: Layout) -> Result<Bytes, A
 }
 
 /// The text of the scene that a board shows, and a newline. What it shows is moved out of the
-/// store.
+/// store and never freed: the process ends with its answer.
 pub(crate) fn shown_text(
     alloc: Global,
     head: &Head,
@@ -99,7 +100,9 @@ pub(crate) fn shown_text(
         → IsBoardOf scenes head.now store.elements → IsShownAs scenes layout text) }
 {
     let shown = into_shown(alloc, store)?;
-    ended(elements_text(alloc, head, shown.as_slice(), layout)?)
+    let text = elements_text(alloc, head, shown.as_slice(), layout)?;
+    forget(shown);
+    ended(text)
 }
 
 /// The text of all that a board stores, and a newline.

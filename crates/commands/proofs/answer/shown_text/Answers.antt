@@ -4,8 +4,8 @@ use Rattle.commands.proofs.answer.shown_text.Goals as goal
 pub returns-clause-scene : goal.returns-clause-scene
 returns-clause-scene c =
     IfOk-weaker c.ended.result _ _ (λ text made. record {
-      written = c.in_ok-elements_text.field-0;
-      scene = rw (← c.in_ok-shown.ensures.exact, ← c.as_slice.ensures) c.in_ok-elements_text.ensures;
+      written = c.in_ok-text.text;
+      scene = rw (← c.in_ok-shown.ensures.exact, ← c.as_slice.ensures) c.in_ok-text.ensures;
       ended = made;
       rise = rw (← c.in_ok-shown.ensures.exact) c.in_ok-shown.ensures.keys;
       settled = rw (← c.in_ok-shown.ensures.exact) c.in_ok-shown.ensures.settled;
@@ -17,8 +17,8 @@ returns-clause-board c =
       head = c.args.head.now;
       stored = c.args.store.elements;
       board = board;
-      written = c.in_ok-elements_text.field-0;
-      scene = rw (← c.in_ok-shown.ensures.exact, ← c.as_slice.ensures) c.in_ok-elements_text.ensures;
+      written = c.in_ok-text.text;
+      scene = rw (← c.in_ok-shown.ensures.exact, ← c.as_slice.ensures) c.in_ok-text.ensures;
       ended = made;
       rise = rw (← c.in_ok-shown.ensures.exact) c.in_ok-shown.ensures.keys;
       settled = rw (← c.in_ok-shown.ensures.exact) c.in_ok-shown.ensures.settled;
