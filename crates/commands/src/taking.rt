@@ -69,8 +69,7 @@ impl Reader for Gathered {
         let Scene { head, elements } = scene_of(alloc, text)?;
         let next = number_after(self.next)?;
         self.heads.take(alloc, &head)?;
-        self.store.reserve(elements.as_slice().len())?;
-        self.store.take_all(elements);
+        self.store.take_list(alloc, elements)?;
         self.next = next;
         Ok(())
     }

@@ -9,6 +9,7 @@ pub mod Placed
 mod MovedOut
 mod Wanted
 mod Given
+mod SortedPlaces
 pub mod Stored
 pub mod Woven
 pub mod Fronts

@@ -131,18 +131,26 @@ stores-converge updates others elements news same all h k =
     h.each id ∙ same-stored updates others id (stored_of updates id) (stored_of others id) same all refl refl
     ∙ sym (k.each id))
 
--- a list in which the ids rise is its own store
+-- where the ids of some elements rise they are the store of every list of the same elements
+pub AreStored-reordered : (updates elements : List ElementValue) → HaveSameUpdates updates elements
+    → are_rising (ids_of elements) ≡ true → AreStored updates elements
+AreStored-reordered updates elements same h = record { ordered = h; each = λ id. own id (stored_of updates id) refl }
+  where
+    own : (id : List ℕ) (o : Option ElementValue) → stored_of updates id ≡ o
+        → element_of elements id ≡ stored_of updates id
+    own id None k =
+        find-None (has_id id) elements
+        (λ e c. false_from_ne_true (has_id id e) (stored-None updates id e k (same.in_updates e c))) ∙ sym k
+    own id (Some e) k =
+        let best = IsBestOf-stored updates id e k in
+        ap (element_of elements) (same_id id e best.named)
+        ∙ member None None elements e h (same.in_others e best.taken) ∙ sym k
+
+-- so they are their own store
 pub AreStored-itself : (elements : List ElementValue) → are_rising (ids_of elements) ≡ true
     → AreStored elements elements
-AreStored-itself elements h = record { ordered = h; each = λ id. own id (stored_of elements id) refl }
-  where
-    own : (id : List ℕ) (o : Option ElementValue) → stored_of elements id ≡ o
-        → element_of elements id ≡ stored_of elements id
-    own id None k =
-        find-None (has_id id) elements (λ e c. false_from_ne_true (has_id id e) (stored-None elements id e k c)) ∙ sym k
-    own id (Some e) k =
-        let best = IsBestOf-stored elements id e k in
-        ap (element_of elements) (same_id id e best.named) ∙ member None None elements e h best.taken ∙ sym k
+AreStored-itself elements h =
+    AreStored-reordered elements elements (record { in_others = λ e c. c; in_updates = λ e c. c }) h
 
 -- the store of two stores' elements is the store of their updates
 pub AreStored-append : (updates others elements news all : List ElementValue) → AreStored updates elements

@@ -52,6 +52,16 @@ impl Places {
         }
     }
 
+    /// These places in their order.
+    pub(crate) fn of(alloc: Global, places: Vec<usize>) -> Places
+        ensures { result.places ≡ places.items }
+    {
+        Places {
+            settled: places,
+            late: Vec::new(alloc),
+        }
+    }
+
     /// How many there are.
     pub(crate) fn len(&self) -> usize
         ensures { result ≡ length self.now.places }

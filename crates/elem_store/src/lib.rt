@@ -6,6 +6,7 @@ mod indexed;
 pub mod laws;
 mod places;
 mod shelf;
+mod sorting;
 mod store;
 mod texts;
 

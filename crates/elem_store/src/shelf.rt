@@ -1,8 +1,11 @@
 //! Elements as they came, with the first bytes of their ids beside them.
 
-ghost use Rattle.std.specs.Prelude.{◌≡◌, ◌+◌, ◌-◌, ◌<◌, ◌≤◌, [], ◌∷◌, ◌++◌, length, slice_get, slice_set, option_copied, IfSome, IfErr, OnOk, IsOk};
+ghost use Rattle.std.specs.Prelude.{◌≡◌, ◌+◌, ◌-◌, ◌<◌, ◌≤◌, [], ◌∷◌, ◌++◌, length, map, slice_get, slice_set, option_copied, IfSome, IfOk, IfErr, OnOk, IsOk};
+ghost use Rattle.std.specs.Cmp.Lexicographic.{slice_cmp};
+ghost use Rattle.std.specs.Ordering.{nat_cmp};
 ghost use Rattle.board_base.specs.Fronts.{front_of};
 ghost use Rattle.elem.specs.Facts.{IsElement};
+ghost use Rattle.elem_store.specs.inner.Fronts.{front_at};
 ghost use Rattle.elem_store.specs.inner.Places as places;
 
 use board_base::{Front, bytes_order, front_of};
@@ -44,6 +47,14 @@ impl Shelf {
             elements: Vec::new(alloc),
             fronts: Vec::new(alloc),
         }
+    }
+
+    /// These elements. Fails only for want of memory.
+    pub(crate) fn of(alloc: Global, elements: Vec<Element>) -> Result<Shelf, AllocError>
+        ensures { IfOk result (λ shelf. shelf.items ≡ elements.items) }
+    {
+        let fronts = fronts_of(alloc, &elements)?;
+        Ok(Shelf { elements, fronts })
     }
 
     /// How many elements there are.
@@ -107,6 +118,43 @@ impl Shelf {
         }
     }
 
+    /// How the ids of the elements at two places compare; where there is none the id is empty.
+    pub(crate) fn order_between(&self, place: usize, other: usize) -> Ordering
+        ensures { result ≡ slice_cmp nat_cmp (places.id_at self.now.items place)
+            (places.id_at self.now.items other) }
+    {
+        match bytes_order(&self.front(place), &self.front(other)) {
+            Ordering::Less => Ordering::Less,
+            Ordering::Greater => Ordering::Greater,
+            Ordering::Equal => bytes_order(self.id(place), self.id(other)),
+        }
+    }
+
+    /// The front of the id at a place as one number, in the order of the fronts.
+    pub(crate) fn front_number(&self, place: usize) -> u64 {
+        u64::from_be_bytes(self.front(place))
+    }
+
+    /// The front of the id at a place.
+    fn front(&self, place: usize) -> Front
+        ensures { result ≡ front_of (places.id_at self.now.items place) }
+    {
+        match front_at(&self.fronts, place) {
+            Some(front) => front,
+            None => [0; 8],
+        }
+    }
+
+    /// The id at a place.
+    fn id(&self, place: usize) -> &[u8]
+        ensures { result.now ≡ places.id_at self.now.items place }
+    {
+        match self.get(place) {
+            Some(e) => e.id.as_bytes(),
+            None => &[],
+        }
+    }
+
     /// Makes room for this many more. The elements stay, also for want of memory.
     pub(crate) fn reserve(&mut self, n: usize) -> Result<(), AllocError>
         ensures room { OnOk result (length self.old.items + n ≤ self.new.room) }
@@ -154,4 +202,15 @@ fn front_at(fronts: &Vec<Front>, place: usize) -> Option<Front>
     ensures { result ≡ slice_get fronts.now.items place }
 {
     fronts.get(place).copied()
+}
+
+/// The fronts of the ids of elements.
+fn fronts_of(alloc: Global, elements: &Vec<Element>) -> Result<Vec<Front>, AllocError>
+    ensures { IfOk result (λ fronts. fronts.items ≡ map front_at elements.now.items) }
+{
+    let mut fronts = Vec::with_capacity(alloc, elements.len())?;
+    for e in elements {
+        fronts.push(front_of(e.id.as_bytes()))?;
+    }
+    Ok(fronts)
 }

@@ -1,6 +1,6 @@
 //! A store.
 
-ghost use Rattle.std.specs.Prelude.{◌≡◌, ◌+◌, ◌<◌, ◌≤◌, ◌≢◌, List as Items, [], ◌∷◌, ◌++◌, true, length, filter_map, slice_get, option_copied, AllPairs, Contains, IsSome, IfSome, IsOk, IfOk, IfErr, OnOk, Ok, false};
+ghost use Rattle.std.specs.Prelude.{◌≡◌, ◌+◌, ◌<◌, ◌≤◌, ◌≢◌, List as Items, [], ◌∷◌, ◌++◌, true, length, filter_map, slice_get, option_copied, AllPairs, Contains, IsSome, IfSome, IsOk, IfOk, IfErr, OnOk, OnErr, Ok, false};
 ghost use Rattle.frac_keys.specs.Rising.{are_rising};
 ghost use Rattle.elem.specs.ElementValue.{ElementValue};
 ghost use Rattle.elem.specs.Facts.{IsElement};
@@ -9,6 +9,7 @@ ghost use Rattle.elem_store.specs.Updates.{AreStored, HasTaken, element_of, ids_
 use crate::indexed::Places;
 use crate::places::{add, find_place, moved_out, replace_beaten};
 use crate::shelf::Shelf;
+use crate::sorting::places_by_id;
 use board_base::List;
 use elem::Element;
 use json_text::Text;
@@ -62,13 +63,34 @@ impl Store {
     }
 
     /// What is stored of these updates: of each id the one that no other one of the id beats.
+    /// Where no id comes twice, the elements stay in their list.
     pub fn from_updates(alloc: Global, updates: List<Element>) -> Result<Store, AllocError>
         ensures { IfOk result (λ store. AreStored updates store.elements) }
     {
-        let mut store = Store::new(alloc);
-        store.reserve(updates.as_slice().len())?;
-        store.take_all(updates);
-        Ok(store)
+        let elements = Shelf::of(alloc, updates.into_vec())?;
+        match places_by_id(alloc, &elements)? {
+            Some(places) => Ok(Store {
+                elements,
+                places: Places::of(alloc, places),
+            }),
+            None => taken(alloc, elements),
+        }
+    }
+
+    /// Takes the elements in their order. For want of memory none is taken.
+    pub fn take_list(&mut self, alloc: Global, elements: List<Element>) -> Result<(), AllocError>
+        ensures stored { OnOk result ((updates : Items ElementValue)
+            → AreStored updates self.old.elements
+            → AreStored (updates ++ elements) self.new.elements) }
+        ensures err { OnErr result (self.new.elements ≡ self.old.elements) }
+    {
+        if self.len() == 0 {
+            *self = Store::from_updates(alloc, elements)?;
+            return Ok(());
+        }
+        self.reserve(elements.as_slice().len())?;
+        self.take_all(elements);
+        Ok(())
     }
 
     /// Makes room for this many new ids. The elements stay, also for want of memory.
@@ -194,4 +216,15 @@ impl Store {
         let Store { elements, places } = self;
         moved_out(alloc, elements, &places, indices)
     }
+}
+
+/// The store that took these elements one after the other.
+fn taken(alloc: Global, elements: Shelf) -> Result<Store, AllocError>
+    ensures { IfOk result (λ store. AreStored elements.items store.elements) }
+{
+    let elements = elements.into_vec();
+    let mut store = Store::new(alloc);
+    store.reserve(elements.len())?;
+    store.take_all(List::from_vec(elements));
+    Ok(store)
 }
