@@ -1,19 +1,24 @@
 -- Rows in the order of their ids.
-use Rattle.std.proofs.Common.{◌≡◌, ℕ, zero, suc, ◌-◌, ◌<◌, ◌≤◌, Bool, true, false, not, ◌&&◌, List, [], ◌∷◌, length, get_or, take, drop, filter, Ordering, is_lt, nat_cmp, bytes_eq, refl, sym, ap, ◌∙◌, arith, None}
-use Rattle.std.specs.List.Sorted.{IsSortedBy, IsStableBy, IsPartitionedBy, IsPartitionPoint, ties}
+use Rattle.std.proofs.Common.{◌≡◌, ◌≢◌, ℕ, zero, suc, ◌-◌, ◌<◌, ◌≤◌, Bool, true, false, cond, not, ◌&&◌, List, [], ◌∷◌, length, get_or, take, drop, filter, map, Ordering, is_lt, nat_cmp, nat_eq, ltb, leb, bytes_eq, refl, sym, ap, subst, ◌∙◌, arith, None}
+use Rattle.std.specs.List.Sorted.{IsNonDecreasing, IsSortedBy, IsStableBy, IsPartitionedBy, IsPartitionPoint, ties}
 use Rattle.std.specs.Cmp.{IsStrictWeakOrder}
 use Rattle.std.specs.Cmp.Lexicographic.{slice_cmp, nat_list_cmp_total, texts_ties}
-use Rattle.std.specs.Ordering.{is_eq, is_le, ordering_reverse}
+use Rattle.std.specs.Ordering.{is_eq, is_le, ordering_reverse, ordering_then}
 use Rattle.std.specs.declared.cmp.Ordering.TheVariants.{Less, Equal, Greater}
-use Rattle.std.proofs.lemmas.Bool.{both_ways, true_from_ne_false, false_from_ne_true, not-true, not_from_false, cond-true, cond-false}
+use Rattle.std.proofs.lemmas.Bool.{both_ways, true_from_ne_false, false_from_ne_true, not-true, not_from_false, cond-true, cond-false, eq-eqb, lt-ltb, le-ltb, ltb-true, ltb-false, le-leb, lt-leb, leb-true, leb-false}
+use Rattle.std.proofs.lemmas.List.{length-map, get_or-map}
 use Rattle.std.proofs.lemmas.List.Elements.{filter_agree}
-use Rattle.std.proofs.lemmas.List.Sorted.{ranks_by, sorted_far}
+use Rattle.std.proofs.lemmas.List.Kept.{IsSortedBy-filter}
+use Rattle.std.proofs.lemmas.List.Sorted.{ranks_by, sorted_far, IsNonDecreasingBy-from_sort}
+use Rattle.std.proofs.lemmas.Slice.Eq.{bytes_eq-Decides}
+use Rattle.std.proofs.Math.ListN.{get_or-map as get_or_map}
 use Rattle.std.proofs.Math.Seq.{take-nil, drop-nil}
 use Rattle.elem.specs.ElementValue.{ElementValue}
 use Rattle.elem.specs.declared.kind.Kind.TheVariants.{Rectangle}
 use Rattle.links.specs.declared.table.Row.{Row}
 use Rattle.links.specs.Tables.{is_under}
-use Rattle.links.specs.inner.Tables.{row_less}
+use Rattle.links.specs.inner.Keys.{front_number, rank}
+use Rattle.links.specs.inner.Tables.{row_front, row_less, AreOrdered}
 
 -- ---- what lies between the places where two tests of a list turn
 module _ {X : Type 0} (below up_to among : X → Bool)
@@ -70,7 +75,7 @@ pub less-order : IsStrictWeakOrder (λ a b. is_lt (slice_cmp nat_cmp a b))
 less-order = ranks_by nat_list_cmp_total (λ a. a)
 
 pub row_less-order : IsStrictWeakOrder row_less
-row_less-order = ranks_by nat_list_cmp_total (λ (row : Row). row.key)
+row_less-order = ranks_by nat_list_cmp_total (λ (row : Row). rank row.key)
 
 le_is : (o : Ordering) → is_le o ≡ not (is_lt (ordering_reverse o))
 le_is Less = refl
@@ -109,20 +114,20 @@ module _ {X : Type 0} (id_of : X → List ℕ) (xs : List X) (key : List ℕ)
       ∙ not_from_false _ (less-order.chain key (id_of (get_or xs j d)) (id_of (get_or xs i d)) not_less
       (rises i j d l m))
 
--- whether a row's id is less than another one, and whether it isn't greater
+-- whether a row stands before the rows of an id, and whether it doesn't stand behind them
 abbrev pub is_below : List ℕ → Row → Bool
-is_below key row = is_less key row.key
+is_below key row = is_less (rank key) (rank row.key)
 
 abbrev pub is_up_to : List ℕ → Row → Bool
-is_up_to key row = is_not_greater key row.key
+is_up_to key row = is_not_greater (rank key) (rank row.key)
 
 pub below-partitioned : (rows : List Row) (key : List ℕ) → IsSortedBy row_less rows
     → IsPartitionedBy (is_below key) rows
-below-partitioned rows key up = less-partitioned (λ (row : Row). row.key) rows key up
+below-partitioned rows key up = less-partitioned (λ (row : Row). rank row.key) rows (rank key) up
 
 pub up_to-partitioned : (rows : List Row) (key : List ℕ) → IsSortedBy row_less rows
     → IsPartitionedBy (is_up_to key) rows
-up_to-partitioned rows key up = not_greater-partitioned (λ (row : Row). row.key) rows key up
+up_to-partitioned rows key up = not_greater-partitioned (λ (row : Row). rank row.key) rows (rank key) up
 
 pub before_is : (o : Ordering) → is_lt o ≡ true → is_eq o ≡ false
 before_is o h = grind arith
@@ -144,23 +149,32 @@ turned_eq Greater = refl
 pub bytes_eq-cmp : (a b : List ℕ) → bytes_eq a b ≡ is_eq (slice_cmp nat_cmp b a)
 bytes_eq-cmp a b = texts_ties a b ∙ ap is_eq (nat_list_cmp_total.antisymm a b) ∙ turned_eq (slice_cmp nat_cmp b a)
 
-under_is : (key : List ℕ) (row : Row) → is_under key row ≡ is_eq (slice_cmp nat_cmp row.key key)
-under_is key row = bytes_eq-cmp key row.key
+-- Two ids are equal exactly if they are equal behind the numbers of their fronts.
+rank-ties : (key id : List ℕ) (b : Bool) → bytes_eq key id ≡ b
+    → b ≡ (nat_eq (front_number key) (front_number id) && b)
+rank-ties key id true h =
+    sym (ap (λ b. b && true) (eq-eqb (front_number key) (front_number id)
+    (ap front_number ((bytes_eq-Decides key id).0 h))))
+rank-ties key id false h =
+    elim (nat_eq (front_number key) (front_number id)) as (λ b. false ≡ (b && false)) [ true ↦ refl | false ↦ refl ]
+
+under_is : (key : List ℕ) (row : Row) → is_under key row ≡ is_eq (slice_cmp nat_cmp (rank row.key) (rank key))
+under_is key row = rank-ties key row.key (bytes_eq key row.key) refl ∙ bytes_eq-cmp (rank key) (rank row.key)
 
 module _ (rows : List Row) (key : List ℕ) (a b : ℕ)
     (start : IsPartitionPoint (λ row. is_below key row ≡ true) (λ row. is_below key row ≡ false) rows a)
     (end' : IsPartitionPoint (λ row. is_up_to key row ≡ true) (λ row. is_up_to key row ≡ false) rows b) where
   pub rows-between : take (b - a) (drop a rows) ≡ filter (is_under key) rows
   rows-between =
-      between-filter (is_below key) (is_up_to key) (λ row. is_eq (slice_cmp nat_cmp row.key key))
+      between-filter (is_below key) (is_up_to key) (λ row. is_eq (slice_cmp nat_cmp (rank row.key) (rank key)))
       (λ row h. before_is _ h) (λ row h k. at_is _ h k) (λ row h. behind_is _ h) (λ row h. less_is _ h) rows a b start
       end'
-      ∙ filter_agree (λ row. is_eq (slice_cmp nat_cmp row.key key)) (is_under key) (λ row. sym (under_is key row))
-      rows
+      ∙ filter_agree (λ row. is_eq (slice_cmp nat_cmp (rank row.key) (rank key))) (is_under key)
+      (λ row. sym (under_is key row)) rows
 
   pub rows-ordered : a ≤ length rows → a ≤ b
   rows-ordered l =
-      turns-ordered (is_below key) (is_up_to key) (λ row. is_eq (slice_cmp nat_cmp row.key key))
+      turns-ordered (is_below key) (is_up_to key) (λ row. is_eq (slice_cmp nat_cmp (rank row.key) (rank key)))
       (λ row h. before_is _ h) (λ row h k. at_is _ h k) (λ row h. behind_is _ h) (λ row h. less_is _ h) rows a b l start
       end'
 
@@ -175,7 +189,7 @@ absent-point rows key a up start behind = (
       (λ h. both_ways _ (behind d (omega (arith, l, m))) (up_to-partitioned rows key up a k d l m h)),
 )
 
--- ---- rows of one id keep their order
+-- ---- rows of one front
 blank : ElementValue
 blank = record {
   id = [];
@@ -198,6 +212,125 @@ blank = record {
 row_at : List ℕ → Row
 row_at key = record { key = key; element = record { ref_ptr = (0, 0); now = blank } }
 
+less_first : (o p : Ordering) → is_lt (ordering_then o p) ≡ false → is_lt o ≡ false
+less_first Less p h = h
+less_first Equal p h = refl
+less_first Greater p h = refl
+
+pub fronts-rise : (fronts : List ℕ) (rows : List Row) → AreOrdered fronts rows → IsNonDecreasing fronts
+fronts-rise fronts rows are =
+    let rise = IsNonDecreasingBy-from_sort row_front rows (λ k d l m. less_first _ _ (are.ordered k d l m)) in
+    subst IsNonDecreasing (sym are.beside) (λ i j d l m.
+    let short : j < length rows = subst (λ n. j < n) (length-map rows row_front) m in
+    subst (λ n. n ≤ get_or (map row_front rows) j d)
+    (sym (get_or-map row_front rows i (row_at []) d (omega (arith, l, short))))
+    (subst (λ n. row_front (get_or rows i (row_at [])) ≤ n) (sym (get_or-map row_front rows j (row_at []) d short))
+    (rise i j (row_at []) l short)))
+
+before_front : (n m : ℕ) → ltb n m ≡ true → nat_eq n m ≡ false
+before_front n m h = let l = ltb-true n m h in grind arith
+
+at_front : (n m : ℕ) → ltb n m ≡ false → leb n m ≡ true → nat_eq n m ≡ true
+at_front n m h k = let l = ltb-false n m h in let u = leb-true n m k in eq-eqb n m (omega arith)
+
+behind_front : (n m : ℕ) → leb n m ≡ false → nat_eq n m ≡ false
+behind_front n m h = let l = leb-false n m h in grind arith
+
+less_front : (n m : ℕ) → ltb n m ≡ true → leb n m ≡ true
+less_front n m h = let l = ltb-true n m h in le-leb n m (omega arith)
+
+module _ (fronts : List ℕ) (front i : ℕ) where
+  pub start-point : IsPartitionPoint (λ other. ltb other front ≡ true) (λ other. ltb other front ≡ false) fronts i
+      → IsPartitionPoint (λ other. other < front) (λ other. front ≤ other) fronts i
+  start-point h = (λ k d l m. ltb-true _ _ (h.0 k d l m), λ k d l m. ltb-false _ _ (h.1 k d l m))
+
+  pub end-point : IsPartitionPoint (λ other. leb other front ≡ true) (λ other. leb other front ≡ false) fronts i
+      → IsPartitionPoint (λ other. other ≤ front) (λ other. front < other) fronts i
+  end-point h = (λ k d l m. leb-true _ _ (h.0 k d l m), λ k d l m. leb-false _ _ (h.1 k d l m))
+
+  pub points-ordered : (j : ℕ) → i ≤ length fronts
+      → IsPartitionPoint (λ other. ltb other front ≡ true) (λ other. ltb other front ≡ false) fronts i
+      → IsPartitionPoint (λ other. leb other front ≡ true) (λ other. leb other front ≡ false) fronts j → i ≤ j
+  points-ordered j l start end' =
+      turns-ordered (λ n. ltb n front) (λ n. leb n front) (λ n. nat_eq n front) (λ n h. before_front n front h)
+      (λ n h k. at_front n front h k) (λ n h. behind_front n front h) (λ n h. less_front n front h) fronts i j l start
+      end'
+
+  -- where no number is this one, they start and end at the same place
+  pub absent-front : IsNonDecreasing fronts
+      → IsPartitionPoint (λ other. other < front) (λ other. front ≤ other) fronts i
+      → ((d : ℕ) → i < length fronts → get_or fronts i d ≢ front)
+      → IsPartitionPoint (λ other. other ≤ front) (λ other. front < other) fronts i
+  absent-front rise start apart = (
+    λ k d l m. let below = start.0 k d l m in omega arith,
+    λ k d l m.
+        let first : i < length fronts = omega (arith, l, m) in
+        let up = start.1 i d (omega arith) first in
+        let far = rise i k d l m in
+        let other = apart d first in
+        grind arith,
+  )
+
+abbrev pub has_front : ℕ → Row → Bool
+has_front front row = nat_eq (row_front row) front
+
+-- where the fronts that are this one start and end
+module _ (fronts : List ℕ) (rows : List Row) (are : AreOrdered fronts rows) (front a b : ℕ)
+    (start : IsPartitionPoint (λ other. other < front) (λ other. front ≤ other) fronts a)
+    (end' : IsPartitionPoint (λ other. other ≤ front) (λ other. front < other) fronts b) where
+  as_many : length fronts ≡ length rows
+  as_many = ap length are.beside ∙ length-map rows row_front
+
+  front_at : (k : ℕ) (d : Row) → get_or fronts k (row_front d) ≡ row_front (get_or rows k d)
+  front_at k d = ap (λ ns. get_or ns k (row_front d)) are.beside ∙ get_or_map row_front rows k d
+
+  start_row : IsPartitionPoint (λ row. ltb (row_front row) front ≡ true) (λ row. ltb (row_front row) front ≡ false)
+      rows a
+  start_row = (
+    λ k d l m. lt-ltb _ _ (subst (λ n. n < front) (front_at k d) (start.0 k (row_front d) l m)),
+    λ k d l m. le-ltb _ _ (subst (λ n. front ≤ n) (front_at k d) (start.1 k (row_front d) l
+        (subst (λ n. k < n) (sym as_many) m))),
+  )
+
+  end_row : IsPartitionPoint (λ row. leb (row_front row) front ≡ true) (λ row. leb (row_front row) front ≡ false)
+      rows b
+  end_row = (
+    λ k d l m. le-leb _ _ (subst (λ n. n ≤ front) (front_at k d) (end'.0 k (row_front d) l m)),
+    λ k d l m. lt-leb _ _ (subst (λ n. front < n) (front_at k d) (end'.1 k (row_front d) l
+        (subst (λ n. k < n) (sym as_many) m))),
+  )
+
+  pub front-between : take (b - a) (drop a rows) ≡ filter (has_front front) rows
+  front-between =
+      between-filter (λ row. ltb (row_front row) front) (λ row. leb (row_front row) front) (has_front front)
+      (λ row h. before_front _ _ h) (λ row h k. at_front _ _ h k) (λ row h. behind_front _ _ h)
+      (λ row h. less_front _ _ h) rows a b start_row end_row
+
+  pub front-sorted : IsSortedBy row_less (take (b - a) (drop a rows))
+  front-sorted =
+      subst (IsSortedBy row_less) (sym front-between)
+      (IsSortedBy-filter row_less row_less-order (has_front front) rows are.ordered)
+
+filter-within : {X : Type 0} (p q : X → Bool) → ((x : X) → q x ≡ true → p x ≡ true) → (xs : List X)
+    → filter q (filter p xs) ≡ filter q xs
+filter-within p q h [] = refl
+filter-within p q h (x ∷ xs) = step (p x) refl (filter-within p q h xs) where
+  step : (b : Bool) → p x ≡ b → filter q (filter p xs) ≡ filter q xs
+      → filter q (cond b (x ∷ filter p xs) (filter p xs)) ≡ filter q (x ∷ xs)
+  step true is rest = ap (λ ys. cond (q x) (x ∷ ys) ys) rest
+  step false is rest =
+      rest ∙ sym (cond-false (q x) (x ∷ filter q xs) (filter q xs)
+      (false_from_ne_true (q x) (λ t. both_ways (p x) is (h x t))))
+
+-- the rows of an id are among those of its front
+pub front-under : (key : List ℕ) (rows : List Row)
+    → filter (is_under key) (filter (has_front (front_number key)) rows) ≡ filter (is_under key) rows
+front-under key rows =
+    filter-within (has_front (front_number key)) (is_under key)
+    (λ row h. eq-eqb (row_front row) (front_number key) (sym (ap front_number ((bytes_eq-Decides key row.key).0 h))))
+    rows
+
+-- ---- rows of one id keep their order
 ties_are : (o : Ordering) → (not (is_lt (ordering_reverse o)) && not (is_lt o)) ≡ is_eq o
 ties_are Less = refl
 ties_are Equal = refl
@@ -206,9 +339,9 @@ ties_are Greater = refl
 ties-under : (key : List ℕ) (row : Row) → ties row_less (row_at key) row ≡ is_under key row
 unfolding row_at
 ties-under key row =
-    ap (λ o. not (is_lt o) && not (is_lt (slice_cmp nat_cmp row.key key)))
-    (nat_list_cmp_total.antisymm key row.key)
-    ∙ ties_are (slice_cmp nat_cmp row.key key) ∙ sym (under_is key row)
+    ap (λ o. not (is_lt o) && not (is_lt (slice_cmp nat_cmp (rank row.key) (rank key))))
+    (nat_list_cmp_total.antisymm (rank key) (rank row.key))
+    ∙ ties_are (slice_cmp nat_cmp (rank row.key) (rank key)) ∙ sym (under_is key row)
 
 pub kept-under : (rows new : List Row) → IsStableBy row_less rows new → (key : List ℕ)
     → filter (is_under key) new ≡ filter (is_under key) rows

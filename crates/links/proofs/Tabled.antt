@@ -1,11 +1,11 @@
 -- Tables of a list: what a row adds, and what a test finds among the rows of an id.
-use Rattle.std.proofs.Common.{◌≡◌, ℕ, ◌+◌, ◌<◌, Bool, true, false, cond, ◌&&◌, ◌||◌, List, [], ◌∷◌, ◌++◌, length, get_or, take, find, filter, map, slice_get, Option, Some, None, bytes_eq, nat_cmp, refl, sym, ap, ap₂, ◌∙◌, append_assoc, append-nil}
+use Rattle.std.proofs.Common.{◌≡◌, ℕ, ◌+◌, ◌<◌, Bool, true, false, cond, ◌&&◌, ◌||◌, List, [], ◌∷◌, ◌++◌, length, get_or, take, find, filter, map, slice_get, Option, Some, None, is_some, bytes_eq, nat_cmp, refl, sym, ap, ap₂, ◌∙◌, append_assoc, append-nil}
 use Rattle.std.specs.Cmp.Lexicographic.{slice_cmp}
 use Rattle.std.specs.List.{list_any, zip}
 use Rattle.std.specs.Option.{option_copied, option_map, option_or}
 use Rattle.std.specs.Ordering.{is_eq}
 use denote.Ref.{Bor}
-use Rattle.std.proofs.lemmas.Bool.{cond-true, cond-false}
+use Rattle.std.proofs.lemmas.Bool.{both_ways, cond-true, cond-false}
 use Rattle.std.proofs.lemmas.List.{map-append, take_more}
 use Rattle.std.proofs.lemmas.List.Elements.{filter-append, filter_more}
 use Rattle.std.proofs.lemmas.Slice.Eq.{bytes_eq-Decides}
@@ -16,7 +16,7 @@ use Rattle.elem.specs.Order.{has_id}
 use Rattle.links.specs.declared.table.Row.{Row}
 use Rattle.links.specs.Arrows.{is_bound_to, is_true_as, is_true_entry, arrow_entries, text_entries, listing}
 use Rattle.links.specs.Entries.{arrow_entry, first_entries}
-use Rattle.links.specs.Names.{id_of, is_arrow, is_id, can_hold_text, names_container, target_of, end_names, has_end_at, is_target}
+use Rattle.links.specs.Names.{id_of, is_text, is_arrow, is_id, can_hold_text, names_container, target_of, end_names, has_end_at, is_target}
 use Rattle.links.specs.Tables.{is_under, row_element, elements_under, Adds, with_listing_entry}
 use Rattle.links.specs.inner.Tables.{IsTable, with_entries}
 use Rattle.links.specs.Texts.{is_for_text, is_text_entry, listed_text, first_text, text_of, is_text_of, keeps_container}
@@ -65,10 +65,6 @@ module _ (names : List ℕ → ElementValue → Bool) (e : ElementValue) (old ne
         ∙ either_one (is_under key row) (is_under key other) (apart key)
         ∙ ap (λ b. cond b (e ∷ []) []) (sym (same key)));
   }
-
--- rows under way: they have under each id the elements of a first part of the list that name it
-pub record HasUnder (names : List ℕ → ElementValue → Bool) (list : List ElementValue) (rows : List Row) : Type 0 where
-  pub each : (key : List ℕ) → elements_under key rows ≡ filter (names key) list
 
 -- ---- the ends of an arrow that has both
 module _ (e : ElementValue) (s t : List ℕ) (arrow : is_arrow e.kind ≡ true) (start : target_of e.start_binding ≡ Some s)
@@ -172,6 +168,16 @@ keeps_container-is list e rows table =
     ap (list_any (λ (container : ElementValue). names_container container.id e)) (table.found e.id)
     ∙ list_any-filter (is_text_of list e.id) (λ container. names_container container.id e) list
 
+-- an element that is no text with a container names none
+pub uncontained : (e : ElementValue) → (is_text e.kind && is_some e.container) ≡ false → (id : List ℕ)
+    → names_container id e ≡ false
+uncontained e h id = none (is_text e.kind) e.container h where
+  none : (text : Bool) (container : Option (List ℕ)) → (text && is_some container) ≡ false
+      → (text && is_id id container) ≡ false
+  none true None h = refl
+  none true (Some other) h = absurd (both_ways true h refl)
+  none false container h = refl
+
 -- ---- the text of a container
 pub held : (list : List ElementValue) (c : ElementValue) → can_hold_text c.kind ≡ true
     → text_of list c ≡ option_or (listed_text list c) (first_text list c)
@@ -191,7 +197,7 @@ pub text_of-first : (list : List ElementValue) (c : ElementValue) → can_hold_t
 text_of-first list c h listed = sym (held list c h ∙ ap (λ o. option_or o (first_text list c)) listed)
 
 -- ---- arrows that are bound to an element
-list_any-none : {X : Type 0} (p : X → Bool) (xs : List X) → ((x : X) → p x ≡ false) → list_any p xs ≡ false
+pub list_any-none : {X : Type 0} (p : X → Bool) (xs : List X) → ((x : X) → p x ≡ false) → list_any p xs ≡ false
 list_any-none p [] h = refl
 list_any-none p (x ∷ xs) h = ap (λ b. b || list_any p xs) (h x) ∙ list_any-none p xs h
 

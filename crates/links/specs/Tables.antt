@@ -1,5 +1,5 @@
--- How the code keeps who names whom: rows of an id and an element, in the order of the ids and, for
--- one id, of the list. This project's own.
+-- How the code keeps who names whom: rows of an id and an element, for one id in the order of the
+-- list. This project's own.
 use Rattle.std.specs.Prelude.{◌≡◌, ℕ, List, [], ◌∷◌, ◌++◌, Bool, None, filter, map, bytes_eq, if◌then◌else◌}
 use Rattle.elem.specs.ElementValue.{ElementValue}
 use Rattle.std.specs.BTreeSet.{BTreeSet}

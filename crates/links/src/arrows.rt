@@ -13,7 +13,7 @@ ghost use Rattle.elem.specs.declared.kind.Role.TheVariants as roles;
 use crate::listing::Listing;
 use crate::names::{Names, ends_of};
 use crate::parts::{bound_of, has_end_at, id_of, is_target};
-use crate::table::{Row, rows_under};
+use crate::table::{Table, rows_under};
 use board_base::List;
 use elem::{BoundRef, Element, Role};
 use json_text::Text;
@@ -41,13 +41,8 @@ impl<'a> Names<'a> {
     }
 
     /// The links of an element.
-    fn links_of(
-        &self,
-        alloc: Global,
-        ends: &Vec<Row<'a>>,
-        e: &'a Element,
-    ) -> Result<Links, AllocError>
-        requires { IsTable has_end_at self.now ends.now.items }
+    fn links_of(&self, alloc: Global, ends: &Table<'a>, e: &'a Element) -> Result<Links, AllocError>
+        requires { IsTable has_end_at self.now ends.now }
         ensures { IfOk result (λ links. links ≡ links_of self.now e.now) }
     {
         let (start, end) = ends_of(e);
@@ -72,10 +67,10 @@ impl<'a> Names<'a> {
     fn listing(
         &self,
         alloc: Global,
-        ends: &Vec<Row<'a>>,
+        ends: &Table<'a>,
         e: &'a Element,
     ) -> Result<List<BoundRef>, AllocError>
-        requires { IsTable has_end_at self.now ends.now.items }
+        requires { IsTable has_end_at self.now ends.now }
         ensures { IfOk result (λ entries. entries ≡ words.listing self.now e.now) }
     {
         let text = self.text_of(e);
@@ -115,10 +110,10 @@ impl<'a> Names<'a> {
     fn add_arrows(
         &self,
         listing: &mut Listing,
-        ends: &Vec<Row<'a>>,
+        ends: &Table<'a>,
         e: &Element,
     ) -> Result<(), AllocError>
-        requires ends { IsTable has_end_at self.now ends.now.items }
+        requires ends { IsTable has_end_at self.now ends.now }
         requires seen { AreSeen listing.old.entries.items listing.old.arrows listing.old.texts }
         ensures entries { OnOk result (listing.new.entries.items
             ≡ with_entries listing.old.entries.items (words.arrow_entries self.now e.now)) }

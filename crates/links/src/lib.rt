@@ -3,6 +3,7 @@
 #![tactic(auto)]
 
 mod arrows;
+mod key;
 pub mod laws;
 mod link_table;
 mod listing;

@@ -7,9 +7,9 @@ ghost use Rattle.links.specs.Names as words;
 ghost use Rattle.links.specs.Tables.{row_element, Adds};
 ghost use Rattle.links.specs.inner.Tables.{IsTable};
 
+use crate::key::Key;
 use crate::parts::{container_of, id_of, is_arrow, is_text};
-use crate::table::{Row, rows_under, sorted};
-use board_base::Fronted;
+use crate::table::{Row, Table, rows_under, sorted};
 use elem::{Binding, Element};
 use json_text::Text;
 use std::alloc::{AllocError, Global};
@@ -19,8 +19,8 @@ use std::marker::Model;
 #[derive(Drop)]
 pub(crate) struct Names<'a> {
     list: &'a Vec<Element>,
-    by_id: Vec<Row<'a>>,
-    by_container: Vec<Row<'a>>,
+    by_id: Table<'a>,
+    by_container: Table<'a>,
 }
 
 impl<'a> Model for Names<'a> {
@@ -32,7 +32,7 @@ impl<'a> Model for Names<'a> {
 
     ghost view = { λ n. n.list.now.items };
 
-    ghost invariant = { λ n. AreTables n.list.now.items n.by_id.items n.by_container.items };
+    ghost invariant = { λ n. AreTables n.list.now.items n.by_id n.by_container };
 }
 
 impl<'a> Names<'a> {
@@ -48,8 +48,8 @@ impl<'a> Names<'a> {
         }
         Ok(Names {
             list,
-            by_id: sorted(by_id)?,
-            by_container: sorted(by_container)?,
+            by_id: sorted(alloc, by_id)?,
+            by_container: sorted(alloc, by_container)?,
         })
     }
 
@@ -75,14 +75,14 @@ impl<'a> Names<'a> {
     }
 
     /// The arrows of the list, by what their ends name.
-    pub(crate) fn ends(&self, alloc: Global) -> Result<Vec<Row<'a>>, AllocError>
-        ensures { IfOk result (λ rows. IsTable words.has_end_at self.now rows.items) }
+    pub(crate) fn ends(&self, alloc: Global) -> Result<Table<'a>, AllocError>
+        ensures { IfOk result (IsTable words.has_end_at self.now) }
     {
         let mut rows = Vec::new(alloc);
         for e in self.list {
             add_ends(&mut rows, e)?;
         }
-        sorted(rows)
+        sorted(alloc, rows)
     }
 }
 
@@ -90,7 +90,7 @@ impl<'a> Names<'a> {
 fn add_id<'a>(rows: &mut Vec<Row<'a>>, element: &'a Element) -> Result<(), AllocError>
     ensures { OnOk result (Adds has_id element.now rows.old.items rows.new.items) }
 {
-    let key = Fronted::new(id_of(element).as_bytes());
+    let key = Key::of(id_of(element));
     rows.push(Row { key, element })?;
     Ok(())
 }
@@ -116,7 +116,7 @@ pub(crate) fn add_under<'a>(
         rows.new.items) }
 {
     if let Some(key) = key {
-        let key = Fronted::new(key.as_bytes());
+        let key = Key::of(key);
         rows.push(Row { key, element })?;
     }
     Ok(())
@@ -131,10 +131,10 @@ fn add_ends<'a>(rows: &mut Vec<Row<'a>>, element: &'a Element) -> Result<(), All
     }
     match ends_of(element) {
         (Some(start), Some(end)) => {
-            let key = Fronted::new(start.as_bytes());
+            let key = Key::of(start);
             rows.push(Row { key, element })?;
             if start != end {
-                let key = Fronted::new(end.as_bytes());
+                let key = Key::of(end);
                 rows.push(Row { key, element })?;
             }
         }

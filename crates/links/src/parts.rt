@@ -1,6 +1,6 @@
 //! What an element is and what it names.
 
-ghost use Rattle.std.specs.Prelude.{◌≡◌};
+ghost use Rattle.std.specs.Prelude.{◌≡◌, ◌&&◌, is_some};
 ghost use Rattle.std.specs.Option.{option_copied};
 ghost use Rattle.links.specs.Names as names;
 ghost use Rattle.links.specs.Steps as steps;
@@ -80,6 +80,13 @@ pub(crate) fn is_for_text(entry: &BoundRef) -> bool
     ensures { result ≡ texts.is_for_text entry.now.role }
 {
     matches!(entry.role, Role::Text)
+}
+
+/// Whether an element is a text that has a container.
+pub(crate) fn is_contained(e: &Element) -> bool
+    ensures { result ≡ (names.is_text e.now.kind && is_some e.now.container) }
+{
+    is_text(e) && container_of(e).is_some()
 }
 
 /// Whether an element is a text that names one of this id as its container.

@@ -2,16 +2,15 @@
 
 ghost use Rattle.std.specs.Prelude.{◌≡◌, map, IfOk};
 ghost use Rattle.std.specs.List.{list_any};
-ghost use Rattle.std.specs.List.Sorted.{IsSortedBy};
 ghost use Rattle.std.specs.Option.{option_copied};
 ghost use Rattle.links.specs.Names as names;
 ghost use Rattle.links.specs.Tables.{elements_under};
-ghost use Rattle.links.specs.inner.Tables.{row_less, IsTable};
+ghost use Rattle.links.specs.inner.Tables.{IsTable};
 ghost use Rattle.links.specs.Texts as words;
 
 use crate::names::{Names, add_under};
-use crate::parts::{bound_of, can_hold_text, id_of, is_for_text, names_container};
-use crate::table::{Row, rows_under, sorted};
+use crate::parts::{bound_of, can_hold_text, id_of, is_contained, is_for_text, names_container};
+use crate::table::{Table, rows_under, sorted};
 use elem::{BoundRef, Element};
 use json_text::Text;
 use std::alloc::{AllocError, Global};
@@ -77,24 +76,25 @@ impl<'a> Names<'a> {
     }
 
     /// The containers of the list that have a text, by the ids of these texts.
-    fn containers(&self, alloc: Global) -> Result<Vec<Row<'a>>, AllocError>
-        ensures { IfOk result (λ rows. IsTable (words.is_text_of self.now) self.now rows.items) }
+    fn containers(&self, alloc: Global) -> Result<Table<'a>, AllocError>
+        ensures { IfOk result (IsTable (words.is_text_of self.now) self.now) }
     {
         let mut rows = Vec::new(alloc);
         for element in self.list() {
             add_under(&mut rows, self.text_of(element), element)?;
         }
-        sorted(rows)
+        sorted(alloc, rows)
     }
 }
 
 /// Whether a text keeps its container: it is the text of an element of the list that it names.
-fn keeps_container(containers: &Vec<Row<'_>>, e: &Element) -> bool
-    requires { IsSortedBy row_less containers.now.items }
+fn keeps_container(containers: &Table<'_>, e: &Element) -> bool
     ensures { result ≡ list_any (λ container. names.names_container container.id e.now)
-        (elements_under e.now.id containers.now.items) }
+        (elements_under e.now.id containers.now) }
 {
-    rows_under(containers, id_of(e))
-        .iter()
-        .any(|row| names_container(id_of(row.element), e))
+    // Most elements need no search.
+    is_contained(e)
+        && rows_under(containers, id_of(e))
+            .iter()
+            .any(|row| names_container(id_of(row.element), e))
 }

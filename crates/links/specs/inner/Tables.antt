@@ -1,25 +1,35 @@
--- How the code keeps who names whom: rows of an id and an element, in the order of the ids and, for
--- one id, of the list. This project's own.
+-- How the code keeps who names whom: rows of an id and an element, in the order of the fronts of the
+-- ids as numbers, then of the ids and, for one id, of the list. This project's own.
 -- Only this crate's own bodies and proofs need it.
-use Rattle.std.specs.Prelude.{◌≡◌, ℕ, List, [], ◌∷◌, Bool, filter}
+use Rattle.std.specs.Prelude.{◌≡◌, ℕ, List, [], ◌∷◌, Bool, filter, map}
 use Rattle.std.specs.List.Sorted.{IsSortedBy}
-use Rattle.frac_keys.specs.Keys.{bytes_less}
+use Rattle.std.specs.Cmp.Lexicographic.{slice_cmp}
+use Rattle.std.specs.Ordering.{is_lt, nat_cmp}
 use Rattle.elem.specs.ElementValue.{ElementValue}
 use Rattle.std.specs.BTreeSet.{BTreeSet}
 use Rattle.elem.specs.declared.parts.BoundRef.{BoundRef}
 use Rattle.elem.specs.Order.{has_id}
 use Rattle.links.specs.declared.table.Row.{Row}
 use Rattle.links.specs.Entries.{lists, arrow_entry, text_entry}
+use Rattle.links.specs.inner.Keys.{front_number, rank}
 use Rattle.links.specs.Names.{names_container}
 use Rattle.links.specs.Tables.{elements_under, has_seen, with_listing_entry}
 
+-- whether a row stands before another one
 abbrev pub row_less : Row → Row → Bool
-row_less row other = bytes_less row.key other.key
+row_less row other = is_lt (slice_cmp nat_cmp (rank row.key) (rank other.key))
+
+abbrev pub row_front : Row → ℕ
+row_front row = front_number row.key
+
+-- The rows are in order, and these are the fronts of their ids.
+pub record AreOrdered (fronts : List ℕ) (rows : List Row) : Type 0 where
+  pub ordered : IsSortedBy row_less rows
+  pub beside : fronts ≡ map row_front rows
 
 -- These rows have under each id the elements of the list that name it, in the list's order.
 pub record IsTable (names : List ℕ → ElementValue → Bool) (list : List ElementValue)
     (rows : List Row) : Type 0 where
-  pub ordered : IsSortedBy row_less rows
   pub found : (key : List ℕ) → elements_under key rows ≡ filter (names key) list
 
 -- the tables of a list: its elements by their ids, and its texts by their containers

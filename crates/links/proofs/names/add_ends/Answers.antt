@@ -10,10 +10,10 @@ pub returns-in_ok-push-in-Some-Some-2 : goal.returns-in_ok-push-in-Some-Some-2
 returns-in_ok-push-in-Some-Some-2 c =
     let e = c.args.element.now in
     let arrow : words.is_arrow e.kind ≡ true = cc in
-    let start = c.new-key.ensures ∙ c.as_bytes.ensures.value in
-    let end = c.new-key-then-ne.ensures ∙ c.as_bytes-then-ne.ensures.value in
-    let row : Row = record { key = c.new-key.result; element = c.args.element } in
-    let other : Row = record { key = c.new-key-then-ne.result; element = c.args.element } in
+    let start = c.of-key.ensures in
+    let end = c.of-key-then-ne.ensures in
+    let row : Row = record { key = c.of-key.result; element = c.args.element } in
+    let other : Row = record { key = c.of-key-then-ne.result; element = c.args.element } in
     Adds-two words.has_end_at e c.args.rows.now.items _ row other refl refl
     (has_end_at-both e row.key other.key arrow (sym c.ends_of.ensures.start ∙ ap option_copied c.in-Some-Some.is-0
     ∙ ap Some (sym start)) (sym c.ends_of.ensures.end_ ∙ ap option_copied c.in-Some-Some.is-1 ∙ ap Some (sym end)))
@@ -25,8 +25,8 @@ pub returns-else-ne : goal.returns-else-ne
 returns-else-ne c =
     let e = c.args.element.now in
     let arrow : words.is_arrow e.kind ≡ true = cc in
-    let start = c.new-key.ensures ∙ c.as_bytes.ensures.value in
-    let row : Row = record { key = c.new-key.result; element = c.args.element } in
+    let start = c.of-key.ensures in
+    let row : Row = record { key = c.of-key.result; element = c.args.element } in
     Adds-one words.has_end_at e c.args.rows.now.items _ row refl
     (has_end_at-same e row.key c.in-Some-Some.end.now arrow (sym c.ends_of.ensures.start
     ∙ ap option_copied c.in-Some-Some.is-0 ∙ ap Some (sym start)) (sym c.ends_of.ensures.end_

@@ -1,7 +1,7 @@
 use Rattle.std.proofs.Common.{take}
 use Rattle.links.specs.Texts.{is_text_of}
-use Rattle.links.proofs.Tabled.{HasUnder}
+use Rattle.links.specs.inner.Tables.{IsTable}
 use Rattle.links.proofs.names.Names.containers.Given as goal
 
 abbrev pub invariant-loop-element : goal.invariant-loop-element
-invariant-loop-element l = HasUnder (is_text_of l.self) (take l.element-index l.self) l.rows.items
+invariant-loop-element l = IsTable (is_text_of l.self) (take l.element-index l.self) l.rows.items

@@ -7,6 +7,6 @@ use Rattle.links.proofs.names.Names.kept_containers.Goals as goal
 pub loop-e-preserved : goal.loop-e-preserved
 loop-e-preserved c =
     let keeps : c.keeps_container.result ≡ keeps_container c.args.self.now c.e-item.result =
-    c.keeps_container.ensures ∙ keeps_container-is c.args.self.now c.e-item.result c.in_ok-containers.containers.items
+    c.keeps_container.ensures ∙ keeps_container-is c.args.self.now c.e-item.result c.in_ok-containers.containers
     c.in_ok-containers.ensures in
     grind (arith, common_steps)
