@@ -11,7 +11,7 @@ mod stop;
 
 pub use bytes::Bytes;
 pub use each::change_each;
-pub use front::{Front, Fronted, front_of};
+pub use front::{Front, front_of};
 pub use list::List;
 pub use order::bytes_order;
 pub use piece::Piece;
