@@ -1,161 +1,91 @@
 // A client of a room, without dependencies, for pages and for programs that have WebSocket.
 //
 //     import { RoomClient } from "./room-client.js";
-//     const room = new RoomClient("ws://127.0.0.1:4000", { onElements: (elements) => draw(room.elements()) });
+//     const room = new RoomClient("ws://127.0.0.1:4000", { onElements: () => draw(room.elements()) });
 //     room.change({ ...element, x: 10 });
 //
 // It keeps of each id the best update that it was given or made, deleted ones too, merged as the room does. When the room goes
-// away it joins again, after a pause that grows, and sends what the room lacks. Of an own element that a room refuses it keeps
-// nothing: it would be refused again at each joining, with all that is sent beside it. docs/FORMATS.md has the messages.
+// away it joins again, after a pause that grows, and sends what the room lacks. What the room isn't known to have yet it holds in
+// the browser, and hands it in after a reload. Of an own element that a room refuses for its form it keeps nothing: it would be
+// refused again at each joining, with all that is sent beside it. docs/FORMATS.md has the messages.
+import { Answers } from "./room-answers.js";
+import { HeldUpdates } from "./room-held.js";
+import { Members } from "./room-members.js";
+import { beats, depthOf, elementTexts, inMessages, inSceneOrder, isText, messageOf, ownUpdate, sizeOf, updatesOf } from "./room-updates.js";
 
-/** How long changes are gathered before they are sent together, in milliseconds. */
-const GATHERED = 30;
-/** How many characters a message of several elements has at most, and an element. A character has 3 bytes at most, and a room
- * ends the link of a message of more than 64 MiB. */
-const LONGEST_MESSAGE = 2 ** 20, LONGEST_ELEMENT = 2 ** 24;
-/** The first and the longest pause before it joins again, in milliseconds. */
-const FIRST_PAUSE = 500, LONGEST_PAUSE = 30000;
+export { elementTexts, inSceneOrder };
 
-/** Whether the update a counts and b doesn't: the higher version, then the lower versionNonce, then the lesser text. The text is
- * the element's as the room sends it, not what JSON.stringify makes of it: there 1.50 would become 1.5, and two could differ. */
-function beats(a, b) {
-  if (a.element.version !== b.element.version) return a.element.version > b.element.version;
-  if (a.element.versionNonce !== b.element.versionNonce) return a.element.versionNonce < b.element.versionNonce;
-  return isLess(a.text, b.text);
-}
+/** How long changes are gathered before they are sent together, and how long after a question the next one may be asked, in
+ * milliseconds. */
+const GATHERED = 30, ASKED = 500;
+/** How many bytes a message of several elements has at most, and any text. A room takes up to 64 MiB, or less if it is told so. */
+const LONGEST_MESSAGE = 2 ** 20, LONGEST = 2 ** 24;
+/** The first and the longest pause before it joins again. A link that lasted makes the next pause a first one. */
+const FIRST_PAUSE = 500, LONGEST_PAUSE = 30_000, LASTED = 10_000;
+/** How long an answer to a handshake is waited for before it is told that none comes, in milliseconds. */
+const PATIENCE = 5000;
 
-/** Texts are compared by their bytes in UTF-8; `<` would compare UTF-16. */
-function isLess(a, b) {
-  const [x, y] = [a, b].map((text) => new TextEncoder().encode(text));
-  const at = x.findIndex((byte, i) => byte !== y[i]);
-  return at < 0 ? x.length < y.length : at >= y.length ? false : x[at] < y[at];
-}
+/** Why a room is away: by the code of the Close that ended the link, and by the status of what isn't let in. */
+const CAUSE_OF_CODE = { 1001: "ended", 1002: "breach", 1006: "lost", 1007: "not UTF-8", 1008: "refused", 1009: "too long", 1013: "full" };
+const CAUSE_OF_STATUS = { 404: "not there", 429: "full", 502: "not there", 503: "full", 504: "not there" };
 
-/** The texts of the elements in a message of the room, which is compact: {"type":"..","payload":{"elements":[..]}} */
-export function elementTexts(message) {
-  const list = message.slice(message.indexOf("[") + 1, -"]}}".length);
-  const texts = [];
-  let start = 0, depth = 0, inString = false;
-  for (let i = 0; i < list.length; i++) {
-    const c = list[i];
-    if (inString) {
-      if (c === "\\") i++;
-      else if (c === '"') inString = false;
-    } else if (c === '"') inString = true;
-    else if (c === "{" || c === "[") depth++;
-    else if (c === "}" || c === "]") depth--;
-    else if (c === "," && depth === 0) {
-      texts.push(list.slice(start, i));
-      start = i + 1;
-    }
+/** Why nobody is let in at this address: whether something answers there at all, and its status where a page may read it. */
+async function causeOfRefusal(url) {
+  try {
+    const words = { mode: "no-cors", cache: "no-store", redirect: "manual", signal: AbortSignal.timeout(PATIENCE) };
+    const { status } = await fetch(url.replace(/^ws/, "http"), words);
+    return { cause: CAUSE_OF_STATUS[status] ?? "refused", ...(status > 0 && { status }) };
+  } catch {
+    return { cause: "not there" };
   }
-  return list === "" ? texts : [...texts, list.slice(start)];
-}
-
-/** An element's text as the room writes it: all members in the order of their names, half a pair of surrogates as U+FFFD. */
-function textOf(element) {
-  const text = JSON.stringify(Object.fromEntries(Object.keys(element).sort().map((name) => [name, element[name]])));
-  return text.replace(/\\(?:(ud...)|.)/g, (escape, half) => (half ? "\ufffd" : escape));
-}
-
-const isObject = (value) => typeof value === "object" && value !== null && !Array.isArray(value);
-const isText = (value) => typeof value === "string";
-const isNumber = (value) => Number.isSafeInteger(value) && value >= 0;
-
-/** Whether a text is a fractional key: its first letter says how long its integer part is, and the rest doesn't end in 0. */
-function isKey(text) {
-  const size = text < "a" ? 92 - text.charCodeAt(0) : text.charCodeAt(0) - 95;
-  const isWhole = text.length === size ? !/^A0*$/.test(text) : text.length > size && !text.endsWith("0");
-  return isWhole && /^[A-Za-z][0-9A-Za-z]*$/.test(text);
-}
-
-/** How many brackets are open at most. */
-function depthOf(value) {
-  if (typeof value !== "object" || value === null) return 0;
-  return 1 + Object.values(value).reduce((most, it) => Math.max(most, depthOf(it)), 0);
-}
-
-/** What holds of an element that a room takes as it is, by the room's faults in their order. Two are this client's: a room drops
- * a selection, and makes null of an index that is no key, so that others would be sent something else than is held here. */
-const HOLDS = {
-  depth: (it) => depthOf(it) <= 120,
-  id: ({ id }) => isText(id) && id !== "",
-  type: ({ type }) => isText(type) && type !== "selection",
-  version: ({ version }) => isNumber(version),
-  versionNonce: ({ versionNonce }) => isNumber(versionNonce),
-  updated: ({ updated }) => isNumber(updated ?? 0),
-  index: ({ index }) => index == null || (isText(index) && isKey(index)),
-  isDeleted: ({ isDeleted }) => typeof (isDeleted ?? false) === "boolean",
-  groupIds: ({ groupIds }) => groupIds == null || (Array.isArray(groupIds) && groupIds.every(isText)),
-  frameId: ({ frameId }) => isText(frameId ?? ""),
-  boundElements: ({ boundElements }) => Array.isArray(boundElements ?? []),
-  containerId: ({ type, containerId }) => type !== "text" || isText(containerId ?? ""),
-  binding: (it) => it.type !== "arrow" || [it.startBinding, it.endBinding].every((end) => isObject(end ?? {})),
-  fileId: ({ type, fileId }) => type !== "image" || isText(fileId ?? ""),
-};
-
-/** An own element as {element, text}, as a room reads it; or {fault}. */
-function ownUpdate(given) {
-  if (!isObject(given)) return { fault: "not an object" };
-  const text = textOf({ ...given, version: given.version ?? 1, versionNonce: given.versionNonce ?? 0 });
-  if (text.length > LONGEST_ELEMENT) return { fault: "too long" };
-  const element = JSON.parse(text);
-  const fault = Object.keys(HOLDS).find((name) => !HOLDS[name](element));
-  return fault ? { fault } : { element, text };
-}
-
-/** These updates in runs, each of which is sent as one message. */
-function inMessages(updates) {
-  const runs = [];
-  let size = Infinity;
-  for (const update of updates) {
-    size += update.text.length;
-    if (size > LONGEST_MESSAGE) {
-      runs.push([]);
-      size = update.text.length;
-    }
-    runs.at(-1).push(update);
-  }
-  return runs;
-}
-
-/** The live elements of these from back to front: by their indices, those without one last, then by their ids. */
-export function inSceneOrder(elements) {
-  const order = ({ index, id }) => [index == null ? 1 : 0, index ?? "", id];
-  const compare = (a, b) => (a < b ? -1 : a > b ? 1 : 0);
-  return elements.filter((element) => !element.isDeleted).sort((a, b) => {
-    const [x, y] = [order(a), order(b)];
-    return compare(x[0], y[0]) || compare(x[1], y[1]) || compare(x[2], y[2]);
-  });
 }
 
 export class RoomClient {
   #url;
   #told;
   #isDurable;
+  #held;
+  #members;
   #socket = null;
+  #hasEntered = false; // whether all that the room stores came over this link
+  #joinedAt = 0;
+  #answers;
+  #longestSent = { size: 0 }; // of the texts that went over this link
   #board = new Map(); // of each id its best update, as {element, text}
-  #gathered = new Set(); // ids of own changes that are to be sent
-  #sent = []; // the elements of each own message that a durable room is still to answer
+  #waiting = new Map(); // the updates that the room isn't known to have, by their ids
+  #gathered = new Set(); // ids of what is to be sent
+  #mostBytes = LONGEST_MESSAGE; // of a message of several elements
+  #mostAlone = LONGEST; // of any text
   #pause = FIRST_PAUSE;
-  #timer = null;
+  #sending = null; // timers
+  #asking = null;
+  #joining = null;
   #isClosed = false;
+  #onPageHide = () => this.#flush();
 
   /**
-   * Joins the room. Of these calls each may be left out:
-   * - onElements(elements): these came from the room and count now; at each joining all that count by then
-   * - onState(state): "joined", "away" (it will join again) or "closed"
-   * - onPresence(message): a message of another type came, as an object: a pointer's place, say
-   * - onFault(fault, element): this own element isn't taken, since the room refuses such for this fault; nothing of it is kept or
-   *   sent. Without an element: the room refused a message of this client
-   * - onKept(elements): of a durable room: these, or better updates of theirs, are safe: those of an own message that the room
-   *   answered, and at each joining all that it stores. isDurable says that the room is one, which no message tells
+   * Joins the room. Each of these may be left out:
+   * - onElements(elements): these came from the room, or were held over a reload, and count now; at each joining all that count
+   * - onState(state, why): "joined", "away" (it will join again) or "closed". `why` says why it is away, as {cause, code, status}:
+   *   docs/ROOMS.md has the causes
+   * - onPresence(message): a message of another type came, as an object
+   * - onFault(fault, element): this element isn't taken, for this fault. Of an own one whose form is faulty, or that is too long,
+   *   nothing is kept or sent. One that the room refuses stays here, waits, and is handed in again at the next joining, unless the
+   *   room has shown that it is too long. Without an element: a fault came that can't be told to be of any
+   * - isDurable: whether the room has a journal, which no message tells. bin/room's rooms have
+   * - onKept(elements): of a durable room: these, or better updates of theirs, are safe
+   * - me: what other members are told of this one, {username} at least; without it nothing
+   * - onMembers(members): the other members, by their ids
    * - onMessage(direction, text): each text as it came ("<") or went (">")
    */
   constructor(url, told = {}) {
     this.#url = url;
     this.#told = told;
     this.#isDurable = told.isDurable ?? false;
+    this.#held = new HeldUpdates(url);
+    this.#members = new Members(told.me, (message) => this.presence(message), () => told.onMembers?.(this.members()));
+    globalThis.addEventListener?.("pagehide", this.#onPageHide);
+    this.#recall();
     this.#join();
   }
 
@@ -174,13 +104,23 @@ export class RoomClient {
     return this.#board.get(id)?.element;
   }
 
+  /** The elements that the room isn't known to have, or in a durable room to have kept: own changes, and what a room lost. */
+  waiting() {
+    return [...this.#waiting.values()].map((update) => update.element);
+  }
+
+  /** The other members by their ids, as {username, pointer, button, selectedElementIds}. */
+  members() {
+    return this.#members.all();
+  }
+
   /** Whether what is changed now is sent soon. */
   get isJoined() {
-    return this.#socket !== null && this.#socket.readyState === WebSocket.OPEN;
+    return this.#socket?.readyState === WebSocket.OPEN;
   }
 
   /** Makes an own change of an element: a version higher by one, with a new nonce that decides where another member makes that
-   * version too. Gives the element as it is then, or nothing where a room refuses such: then onFault is told why. */
+   * version too. Gives the element as it is then, or nothing if a room refuses such: then onFault is told why. */
   change(element) {
     const versionNonce = Math.floor(Math.random() * 2 ** 31);
     return this.#own({ ...element, version: (element?.version ?? 0) + 1, versionNonce, updated: Date.now() });
@@ -192,30 +132,52 @@ export class RoomClient {
     for (const element of elements) this.#own(element);
   }
 
-  /** Sends a message of any other type to all others, if it is joined. */
+  /** Sends a message of any other type to all others. Gives whether it went: not if the room is away, or the message too long. */
   presence(message) {
-    if (!isText(message.type) || message.type.startsWith("SCENE_")) throw new TypeError("a message needs a type of its own");
-    if (this.isJoined) this.#send(JSON.stringify(message));
+    const text = JSON.stringify(message) ?? "null";
+    const { type } = JSON.parse(text) ?? {};
+    if (!isText(type) || /^(SCENE_INIT|SCENE_UPDATE|KEPT|INVALID_RESPONSE)$/.test(type)) throw new TypeError("a message needs a type of its own");
+    if (depthOf(JSON.parse(text)) > 128) throw new TypeError("a message nests 128 deep at most");
+    const isSent = this.isJoined && sizeOf(text) <= this.#mostAlone;
+    if (isSent) this.#send(text);
+    return isSent;
+  }
+
+  /** Changes what other members are told of this one: {username, pointer: {x, y}, button, selectedElementIds}, or some of it. */
+  show(changes) {
+    this.#members.show(changes);
   }
 
   /** Sends what was gathered, and leaves the room for good. */
   close() {
+    this.#flush();
     this.#isClosed = true;
-    clearTimeout(this.#timer);
-    this.#sendGathered();
+    globalThis.removeEventListener?.("pagehide", this.#onPageHide);
+    for (const timer of [this.#sending, this.#asking, this.#joining]) clearTimeout(timer);
+    this.#members.forget();
     this.#socket?.close();
     this.#told.onState?.("closed");
   }
 
+  // ---- own updates
+
   #own(given) {
     const update = ownUpdate(given);
-    if (update.fault) {
-      this.#told.onFault?.(update.fault, given);
+    const fault = update.fault ?? (this.#hasRoom(update) ? undefined : "too long");
+    if (fault !== undefined) {
+      this.#told.onFault?.(fault, given);
       return undefined;
     }
-    if (this.#take(update)) this.#gathered.add(update.element.id);
-    this.#sendSoon();
+    if (this.#take(update)) {
+      this.#held.put(update);
+      this.#wait(update);
+    }
     return update.element;
+  }
+
+  /** Whether a message has room for the update. */
+  #hasRoom(update) {
+    return sizeOf(messageOf([update])) <= this.#mostAlone;
   }
 
   #take(update) {
@@ -225,82 +187,180 @@ export class RoomClient {
     return counts;
   }
 
-  #join() {
-    const socket = new WebSocket(this.#url);
-    this.#socket = socket;
-    this.#sent = [];
-    socket.onmessage = (event) => {
-      if (this.#socket === socket && !this.#isClosed) this.#receive(event.data);
-    };
-    // Some programs tell of a room that isn't there by an error alone.
-    socket.onclose = socket.onerror = () => {
-      if (this.#socket === socket && !this.#isClosed) this.#joinLater();
-    };
-  }
-
-  #joinLater() {
-    this.#socket = null;
-    clearTimeout(this.#timer);
-    this.#told.onState?.("away");
-    // Not all at once where many lost the same room.
-    setTimeout(() => this.#isClosed || this.#join(), this.#pause * (0.5 + Math.random()));
-    this.#pause = Math.min(2 * this.#pause, LONGEST_PAUSE);
-  }
-
-  #receive(text) {
-    this.#told.onMessage?.("<", text);
-    const message = JSON.parse(text);
-    if (message.type === "SCENE_INIT") this.#enter(text);
-    else if (message.type === "SCENE_UPDATE") this.#takeTexts(text);
-    else if (message.type === "INVALID_RESPONSE") this.#refuse(message.payload?.fault);
-    // A member may send a message of any type: a KEPT counts only as the answer to an own message.
-    else if (message.type === "KEPT" && this.#isDurable && this.#sent.length > 0) this.#told.onKept?.(this.#sent.shift());
-    else this.#told.onPresence?.(message);
-  }
-
-  /** The room took no own message. A durable room answers each in its turn, so the next KEPT is for the one behind it. */
-  #refuse(fault) {
-    this.#sent.shift();
-    this.#told.onFault?.(fault);
-  }
-
-  /** All that the room stores came. What this client holds and the room may lack is sent. */
-  #enter(text) {
-    this.#pause = FIRST_PAUSE;
-    const theirs = new Set(elementTexts(text));
-    this.#takeTexts(text);
-    if (this.#isDurable) this.#told.onKept?.([...theirs].map((one) => JSON.parse(one)));
-    for (const [id, update] of this.#board) {
-      if (!theirs.has(update.text)) this.#gathered.add(id);
-    }
-    this.#told.onState?.("joined");
+  /** An update is sent soon, and waits until the room has it. */
+  #wait(update) {
+    this.#waiting.set(update.element.id, update);
+    this.#gathered.add(update.element.id);
     this.#sendSoon();
   }
 
-  #takeTexts(text) {
-    const taken = elementTexts(text)
-      .map((one) => ({ element: JSON.parse(one), text: one }))
-      .filter((update) => this.#take(update));
-    if (taken.length > 0) this.#told.onElements?.(taken.map((update) => update.element));
+  /** The room has these updates; a durable one has kept them. */
+  #settle(updates) {
+    for (const update of updates) {
+      const own = this.#waiting.get(update.element.id);
+      if (own && !beats(own, update)) this.#forget(update.element.id);
+    }
+    if (this.#isDurable && updates.length > 0) this.#told.onKept?.(updates.map(({ element }) => element));
   }
 
+  #forget(id) {
+    this.#waiting.delete(id);
+    this.#gathered.delete(id);
+    this.#held.drop(id);
+  }
+
+  /** Takes what was held when the page began, unless the room has told better. */
+  async #recall() {
+    const updates = (await this.#held.recall()).map((text) => ({ element: JSON.parse(text), text }));
+    if (this.#isClosed) return;
+    const taken = updates.filter((update) => this.#take(update));
+    for (const update of taken) this.#wait(update);
+    for (const { element } of updates) if (!this.#waiting.has(element.id)) this.#held.drop(element.id);
+    if (taken.length > 0) this.#told.onElements?.(taken.map(({ element }) => element));
+  }
+
+  // ---- joining, and why the room is away
+
+  #join() {
+    const socket = new WebSocket(this.#url);
+    let hasOpened = false;
+    const lose = (code) => {
+      if (this.#socket !== socket || this.#isClosed) return;
+      this.#lose(hasOpened, code);
+    };
+    socket.onopen = () => (hasOpened = true);
+    socket.onmessage = (event) => {
+      if (this.#socket === socket && !this.#isClosed) this.#receive(event.data);
+    };
+    socket.onclose = (event) => lose(event.code);
+    // Some programs tell of a room that isn't there by an error alone. A browser tells the code behind the error.
+    socket.onerror = () => setTimeout(lose, 0, 1006);
+    this.#socket = socket;
+    this.#hasEntered = false;
+    this.#answers = new Answers(this.#isDurable);
+    this.#longestSent = { size: 0 };
+    // A room that has no place leaves a handshake without an answer until it has.
+    this.#joining = setTimeout(() => hasOpened || this.#told.onState?.("away", { cause: "full" }), PATIENCE);
+  }
+
+  /** The link is lost: joins again later. */
+  #lose(hasOpened, code) {
+    this.#socket = null;
+    this.#members.forget();
+    if (code === 1009) this.#learnLongest();
+    if (this.#hasEntered && Date.now() - this.#joinedAt > LASTED) this.#pause = FIRST_PAUSE;
+    clearTimeout(this.#joining);
+    // Not all at once where many lost the same room.
+    this.#joining = setTimeout(() => this.#join(), this.#pause * (0.5 + Math.random()));
+    this.#pause = Math.min(2 * this.#pause, LONGEST_PAUSE);
+    this.#tellAway(hasOpened, code);
+  }
+
+  async #tellAway(hasOpened, code) {
+    const why = hasOpened ? { cause: CAUSE_OF_CODE[code] ?? "closed" } : await causeOfRefusal(this.#url);
+    if (!this.isJoined && !this.#isClosed) this.#told.onState?.("away", { ...why, code });
+  }
+
+  /** A text was too long for the room: the longest that went over the link, since none that is shorter than a fair one is. */
+  #learnLongest() {
+    const { size, updates } = this.#longestSent;
+    if (size === 0) return;
+    if (updates?.length > 1) this.#mostBytes = size / 2;
+    else this.#mostAlone = Math.min(this.#mostAlone, size - 1);
+    if (updates?.length !== 1) return;
+    this.#held.drop(updates[0].element.id);
+    this.#told.onFault?.("too long", updates[0].element);
+  }
+
+  /** All that the room stores came. What this client has and the room lacks is sent, and waits, even if a room had it before. */
+  #enter(text) {
+    this.#hasEntered = true;
+    this.#joinedAt = Date.now();
+    clearTimeout(this.#joining);
+    const theirs = new Set(this.#takeTexts(text).map((update) => update.text));
+    this.#gathered.clear();
+    for (const update of this.#board.values()) {
+      if (!theirs.has(update.text)) this.#wait(update);
+    }
+    this.#told.onState?.("joined");
+    this.#members.enter();
+  }
+
+  // ---- what comes
+
+  #receive(text) {
+    this.#told.onMessage?.("<", text);
+    if (!this.#hasEntered) {
+      this.#enter(text);
+      return;
+    }
+    const message = JSON.parse(text);
+    if (message.type === "SCENE_INIT" || message.type === "SCENE_UPDATE") this.#takeTexts(text);
+    else if (message.type === "KEPT" || message.type === "INVALID_RESPONSE") this.#takeAnswer(message);
+    else if (!this.#members.take(message)) this.#told.onPresence?.(message);
+  }
+
+  /** Takes elements of the room, and gives their updates: what a durable one tells of is safe there. */
+  #takeTexts(text) {
+    const updates = updatesOf(text);
+    const taken = updates.filter((update) => this.#take(update));
+    this.#settle(updates);
+    if (taken.length > 0) this.#told.onElements?.(taken.map((update) => update.element));
+    return updates;
+  }
+
+  #takeAnswer(message) {
+    const certain = this.#answers.take(message);
+    if (!certain) this.#told.onPresence?.(message);
+    for (const { updates, fault } of certain ?? []) {
+      if (fault === undefined) this.#settle(updates);
+      else if (updates.length > 1) for (const update of updates) this.#sendUpdates([update]); // one may spoil all
+      else this.#told.onFault?.(fault, updates[0]?.element);
+    }
+    this.#ask();
+  }
+
+  // ---- what goes
+
   #sendSoon() {
-    if (this.#gathered.size === 0 || this.#timer !== null) return;
-    this.#timer = setTimeout(() => this.#sendGathered(), GATHERED);
+    if (this.#gathered.size > 0) this.#sending ??= setTimeout(() => this.#sendGathered(), GATHERED);
   }
 
   #sendGathered() {
-    this.#timer = null;
+    clearTimeout(this.#sending);
+    this.#sending = null;
     if (!this.isJoined || this.#gathered.size === 0) return; // it is sent when it joins again
-    const updates = [...this.#gathered].map((id) => this.#board.get(id));
+    const updates = [...this.#gathered].map((id) => this.#board.get(id)).filter((update) => this.#hasRoom(update));
     this.#gathered.clear();
-    for (const run of inMessages(updates)) {
-      if (this.#isDurable) this.#sent.push(run.map((update) => update.element));
-      this.#send(`{"type":"SCENE_UPDATE","payload":{"elements":[${run.map((update) => update.text).join(",")}]}}`);
-    }
+    for (const run of inMessages(updates, this.#mostBytes)) this.#sendUpdates(run);
+    this.#ask();
   }
 
-  #send(text) {
+  #sendUpdates(updates) {
+    this.#answers.sent(updates);
+    this.#send(messageOf(updates), updates);
+  }
+
+  /** Asks the room which updates it has, once in a while as long as some are due. */
+  #ask() {
+    if (this.#asking !== null || !this.isJoined || !this.#answers.areDue) return;
+    for (const text of this.#answers.ask()) this.#send(text);
+    this.#asking = setTimeout(() => {
+      this.#asking = null;
+      this.#ask();
+    }, ASKED);
+  }
+
+  /** Sends and writes what is to be, as the page may be about to end. */
+  #flush() {
+    this.#sendGathered();
+    this.#members.leave();
+    this.#held.flush();
+  }
+
+  #send(text, updates) {
+    const size = sizeOf(text);
+    if (size > this.#longestSent.size) this.#longestSent = { size, updates };
     this.#socket.send(text);
     this.#told.onMessage?.(">", text);
   }

@@ -1,14 +1,14 @@
 //! A run of the top call over memory.
 
-use crate::events::{events_of, open_from};
-use crate::given::{bytes_named, given, is_given, number_or, numbers_of, words_of};
 use crate::stops::push_stops;
-use crate::told::{push_member_of, push_number, push_told};
 use board_base::{Bytes, List, Stop};
-use board_ends::{LinkEvent, MemJournal, MemSink, MemSource, ScriptLinks};
+use board_ends::{MemJournal, MemSink, MemSource, ScriptLinks};
+use case_text::{
+    bytes_named, given, is_given, links_of, number_or, numbers_of, push_member_of, push_number,
+    push_sent, push_told, words_of,
+};
 use commands::{Status, board};
 use json_text::{Member, Text};
-use scene_json::{push_comma, push_whole};
 use std::alloc::{AllocError, Global};
 
 /// How many bytes the output has room for, where the case doesn't say.
@@ -21,11 +21,11 @@ const NOTES_ROOM: usize = 10000;
 const GREATEST: u64 = 67108864;
 
 /// What a run reads from and writes to.
-struct Ends {
-    input: MemSource,
-    output: MemJournal,
-    notes: MemSink,
-    links: ScriptLinks,
+pub(crate) struct Ends {
+    pub(crate) input: MemSource,
+    pub(crate) output: MemJournal,
+    pub(crate) notes: MemSink,
+    pub(crate) links: ScriptLinks,
 }
 
 // By hand, so that whoever drops the ends sees one call and not what they hold.
@@ -60,7 +60,7 @@ pub fn push_run(
 }
 
 /// Runs the board over these ends.
-fn run(alloc: Global, words: &[Bytes], ends: &mut Ends) -> Status {
+pub(crate) fn run(alloc: Global, words: &[Bytes], ends: &mut Ends) -> Status {
     board(
         alloc,
         words,
@@ -136,58 +136,10 @@ pub fn notes_of(alloc: Global, case: &List<Member>, chunk: usize) -> Result<MemS
     Ok(MemSink::new(alloc, chunk.max(1), NOTES_ROOM, writes)?)
 }
 
-/// The links of the case: their events, and the calls that fail or find their link gone.
-pub fn links_of(alloc: Global, case: &List<Member>) -> Result<ScriptLinks, Stop<Text>> {
-    let events = given(events_of(alloc, case)?, "member events")?;
-    let fails = given(numbers_of(alloc, case, "links")?, "member links")?;
-    let gone = given(numbers_of(alloc, case, "gone")?, "member gone")?;
-    given(links_over(alloc, events, fails, gone), "member events")
-}
-
-/// Links of these events, if the links that they open are numbered from 0.
-fn links_over(
-    alloc: Global,
-    events: List<LinkEvent>,
-    fails: List<u64>,
-    gone: List<u64>,
-) -> Option<ScriptLinks> {
-    if open_from(0, events.as_slice()) {
-        Some(ScriptLinks::new(alloc, events, fails, gone))
-    } else {
-        None
-    }
-}
-
 /// Appends the port that was listened on, null where there was none.
 fn push_port(line: &mut Vec<u8>, port: Option<u16>) -> Result<(), AllocError> {
     match port {
         Some(port) => push_number(line, "port", u64::from(port)),
         None => line.extend_from_slice(b",\"port\":null"),
     }
-}
-
-/// Appends the pairs of link and text that were sent.
-pub fn push_sent(
-    alloc: Global,
-    line: &mut Vec<u8>,
-    sent: &[(u64, Bytes)],
-) -> Result<(), AllocError> {
-    push_member_of(line, "sent")?;
-    line.push(b'[')?;
-    for (i, (link, text)) in sent.iter().enumerate() {
-        push_comma(line, i)?;
-        push_pair(alloc, line, *link, text)?;
-    }
-    line.push(b']')?;
-    Ok(())
-}
-
-/// Appends a link and the text that was sent over it.
-fn push_pair(alloc: Global, line: &mut Vec<u8>, link: u64, text: &Bytes) -> Result<(), AllocError> {
-    line.push(b'[')?;
-    push_whole(line, link)?;
-    line.push(b',')?;
-    push_told(alloc, line, text.as_slice(), b"")?;
-    line.push(b']')?;
-    Ok(())
 }

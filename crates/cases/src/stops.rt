@@ -1,9 +1,9 @@
 //! What is recovered of a journal, wherever it was stopped.
 
-use crate::told::{push_member_of, push_told};
+use crate::run::{Ends, run};
 use board_base::{Bytes, List};
 use board_ends::{MemJournal, MemSink, MemSource, ScriptLinks};
-use commands::board;
+use case_text::{push_member_of, push_told};
 use scene_json::push_whole;
 use std::alloc::{AllocError, Global};
 
@@ -55,22 +55,26 @@ fn push_stop(
 /// What `recover` writes of these bytes, and its notes behind that.
 fn recovered(alloc: Global, bytes: &[u8]) -> Result<Bytes, AllocError> {
     let words = [Bytes::from_slice(alloc, b"recover")?];
-    let given = Bytes::from_slice(alloc, bytes)?;
-    let mut input = MemSource::new(given, CHUNK, List::new(alloc));
-    let sink = MemSink::new(alloc, CHUNK, ROOM, List::new(alloc))?;
-    let mut output = MemJournal::new(sink, List::new(alloc));
-    let mut notes = MemSink::new(alloc, CHUNK, ROOM, List::new(alloc))?;
-    let none = List::new(alloc);
-    let mut links = ScriptLinks::new(alloc, none, List::new(alloc), List::new(alloc));
-    let _status = board(
-        alloc,
-        &words,
-        &mut input,
-        &mut output,
-        &mut notes,
-        &mut links,
-    );
-    let mut answer = Vec::from_slice(alloc, output.held())?;
-    answer.extend_from_slice(notes.held())?;
+    let mut ends = ends_over(alloc, bytes)?;
+    let _status = run(alloc, &words, &mut ends);
+    let mut answer = Vec::from_slice(alloc, ends.output.held())?;
+    answer.extend_from_slice(ends.notes.held())?;
     Ok(Bytes::from_vec(answer))
+}
+
+/// Ends of a run over an input of these bytes.
+fn ends_over(alloc: Global, bytes: &[u8]) -> Result<Ends, AllocError> {
+    let given = Bytes::from_slice(alloc, bytes)?;
+    let none = List::new(alloc);
+    Ok(Ends {
+        input: MemSource::new(given, CHUNK, List::new(alloc)),
+        output: MemJournal::new(empty_sink(alloc)?, List::new(alloc)),
+        notes: empty_sink(alloc)?,
+        links: ScriptLinks::new(alloc, none, List::new(alloc), List::new(alloc)),
+    })
+}
+
+/// A sink that never fails.
+fn empty_sink(alloc: Global) -> Result<MemSink, AllocError> {
+    MemSink::new(alloc, CHUNK, ROOM, List::new(alloc))
 }

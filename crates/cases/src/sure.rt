@@ -1,10 +1,9 @@
 //! A run of the top call over an input and an output that never fail.
 
-use crate::given::{bytes_named, given, words_of};
-use crate::run::{chunk_of, links_of, notes_of};
-use crate::told::{push_member_of, push_number, push_told};
+use crate::run::{chunk_of, notes_of};
 use board_base::{List, Stop};
 use board_ends::{SureSink, SureSource};
+use case_text::{bytes_named, given, links_of, push_member_of, push_number, push_told, words_of};
 use commands::board_surely;
 use json_text::{Member, Text};
 use std::alloc::Global;

@@ -19,7 +19,8 @@ use Rattle.scene_file.proofs.CallerLemmas.{StandsAt, joined-exists, scene-or-fau
 use Rattle.shown_scenes.proofs.CallerLemmas.{shown-rise, shown-agree, shown-compact, shown-files}
 use Rattle.session.proofs.CallerLemmas.{report-exists}
 use Rattle.session_text.proofs.CallerLemmas.{session-or-fault}
-use Rattle.commands.specs.Answers.{IsAnswer, IsShownAs, IsStoredAs, HasPictures, IsRefusal, IsMadeOf, session_refusal}
+use Rattle.commands.specs.Again.{TakesScenes}
+use Rattle.commands.specs.Answers.{IsAnswer, IsShownAs, IsStoredAs, HasPictures, IsRefusal, session_refusal}
 use Rattle.commands.specs.Boards.{IsBoardOf, heads_of, updates_of, shown_of}
 use Rattle.commands.specs.Faults.{newline}
 use Rattle.commands.specs.Input.{ScenesLead, HasScenes, HasFaultyText}
@@ -153,11 +154,30 @@ pictures-exist scenes read =
 abbrev IsAnswered : ProgramCommand → List ℕ → Type 0
 IsAnswered command bytes = (answer : Result (List ℕ) InputRefusal) × IsAnswer command bytes answer
 
-made-or-refused : (IsOf : List Scene → List ℕ → Type 0) (bytes : List ℕ)
-    → ((scenes : List Scene) → AllByRecursion HasText scenes → (text : List ℕ) × IsOf scenes text)
-    → ((text : List ℕ) × IsMadeOf IsOf bytes text) ⊎ ((found : InputRefusal) × IsRefusal bytes found)
-made-or-refused IsOf bytes make = elim (held bytes) [
-  | inl (scenes, has) ↦ let made = make scenes (held-texts bytes scenes has) in inl (made.0, (scenes, has, made.1))
+-- scenes are answered with a text, and so is one scene
+pub scenes-answered : (command : ProgramCommand) (bytes : List ℕ) (scenes : List Scene) → TakesScenes command
+    → HasScenes bytes scenes → (text : List ℕ) × IsAnswer command bytes (Ok text)
+scenes-answered (Restore layout) bytes scenes takes has = absurd takes
+scenes-answered (Merge layout) bytes scenes takes has =
+    let made = shown-exists layout scenes (held-texts bytes scenes has) in (made.0, (scenes, has, made.1))
+scenes-answered State bytes scenes takes has = let made = state-exists scenes in (made.0, (scenes, has, made.1))
+scenes-answered Pictures bytes scenes takes has =
+    let made = pictures-exist scenes (held-texts bytes scenes has) in (made.0, (scenes, has, made.1))
+scenes-answered Replay bytes scenes takes has = absurd takes
+scenes-answered (Recover form) bytes scenes takes has = absurd takes
+scenes-answered (Paste prefix) bytes scenes takes has = absurd takes
+scenes-answered Library bytes scenes takes has = absurd takes
+scenes-answered (Insert insertion) bytes scenes takes has = absurd takes
+
+pub scene-answered : (layout : Layout) (bytes : List ℕ) (scene : Scene) → HasScenes bytes (scene ∷ [])
+    → (text : List ℕ) × IsAnswer (Restore layout) bytes (Ok text)
+scene-answered layout bytes scene has =
+    let made = shown-exists layout (scene ∷ []) (held-texts bytes (scene ∷ []) has) in (made.0, (scene, has, made.1))
+
+scenes-or-refused : (command : ProgramCommand) (bytes : List ℕ) → TakesScenes command
+    → ((text : List ℕ) × IsAnswer command bytes (Ok text)) ⊎ ((found : InputRefusal) × IsRefusal bytes found)
+scenes-or-refused command bytes takes = elim (held bytes) [
+  | inl (scenes, has) ↦ inl (scenes-answered command bytes scenes takes has)
   | inr (number, found, faulty) ↦ inr (refusal.Text number found, (number, found, refl, faulty))
 ]
 
@@ -167,8 +187,7 @@ restored layout bytes scene end s = elim (Runs-either is_space (drop end bytes))
   | inl blank ↦
       let has : HasScenes bytes (scene ∷ []) =
       record { some = λ e. cc; rest = drop end bytes; lead = (drop end bytes, s.stands, refl); space = blank.0 } in
-      let made = shown-exists layout (scene ∷ []) (held-texts bytes (scene ∷ []) has) in
-      (Ok made.0, (scene, has, made.1))
+      let made = scene-answered layout bytes scene has in (Ok made.0, made.1)
   | inr more ↦ (
     Err (refusal.Extra (end + prefix_len is_space (drop end bytes))),
     inr (
@@ -191,17 +210,15 @@ answer-exists answered whole (Restore layout) bytes names = elim (scene-or-fault
   | inl (scene, end, s) ↦ restored layout bytes scene end s
   | inr (found, is) ↦ (Err (refusal.Text 1 found), inl (found, refl, is))
 ]
-answer-exists answered whole (Merge layout) bytes names =
-    elim (made-or-refused (λ scenes. IsShownAs scenes layout) bytes (shown-exists layout)) [
-      | inl (text, made) ↦ (Ok text, made)
-      | inr (found, is) ↦ (Err found, is)
-    ]
-answer-exists answered whole State bytes names =
-    elim (made-or-refused IsStoredAs bytes (λ scenes read. state-exists scenes)) [
-      | inl (text, made) ↦ (Ok text, made)
-      | inr (found, is) ↦ (Err found, is)
-    ]
-answer-exists answered whole Pictures bytes names = elim (made-or-refused HasPictures bytes pictures-exist) [
+answer-exists answered whole (Merge layout) bytes names = elim (scenes-or-refused (Merge layout) bytes tt) [
+  | inl (text, made) ↦ (Ok text, made)
+  | inr (found, is) ↦ (Err found, is)
+]
+answer-exists answered whole State bytes names = elim (scenes-or-refused State bytes tt) [
+  | inl (text, made) ↦ (Ok text, made)
+  | inr (found, is) ↦ (Err found, is)
+]
+answer-exists answered whole Pictures bytes names = elim (scenes-or-refused Pictures bytes tt) [
   | inl (text, made) ↦ (Ok text, made)
   | inr (found, is) ↦ (Err found, is)
 ]

@@ -207,7 +207,7 @@ judged answered (first ∷ others) = by (first-line answered first) (further ans
 
 -- ---- what is told
 -- the ids of what is recovered rise
-kept-rise : (lines : List (List ℕ)) (head : Heading) (elements : List ElementValue) → AreKept lines head elements
+pub kept-rise : (lines : List (List ℕ)) (head : Heading) (elements : List ElementValue) → AreKept lines head elements
     → are_rising (ids_of elements) ≡ true
 kept-rise [] head elements kept = subst (λ es. are_rising (ids_of es) ≡ true) (sym kept.1) refl
 kept-rise (first ∷ others) head elements kept = kept.stored.ordered

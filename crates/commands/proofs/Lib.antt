@@ -3,6 +3,7 @@ mod Never
 pub mod Again
 pub mod Answering
 pub mod Asking
+pub mod BegunRooms
 pub mod ById
 pub mod Drills
 pub mod Existing
@@ -17,7 +18,10 @@ pub mod JournalOnce
 pub mod Joining
 pub mod Judging
 pub mod Kept
+pub mod KeptChains
+pub mod KeptClosing
 pub mod Lawful
+pub mod Libraries
 pub mod Lines
 pub mod Names
 pub mod Numbers

@@ -17,7 +17,7 @@ use Rattle.scene_file.specs.declared.scene.Scene.{Scene}
 use Rattle.scene_file.proofs.CallerLemmas.{head-once}
 use Rattle.commands.specs.Answers.{IsAnswer}
 use Rattle.commands.specs.Boards.{IsBoardOf, heads_of, updates_of}
-use Rattle.commands.specs.Pastes.{IsClip, IsExisting, IsNoClip, IsPastedAs}
+use Rattle.commands.specs.Pastes.{HasSceneAndClip, IsClip, IsExisting, IsNoClip, IsPastedAs}
 use Rattle.commands.specs.declared.status.InputRefusal.{InputRefusal}
 use Rattle.commands.specs.declared.status.InputRefusal.TheVariants as refusal
 use Rattle.commands.specs.declared.words.ProgramCommand.TheVariants.{Paste}
@@ -45,7 +45,7 @@ board-same : {scenes : List Scene} {head other : Heading} {stored news : List El
 board-same {scenes = scenes} {stored = stored} {news = news} one two =
     store-unique (updates_of scenes) stored news one.stores two.stores
 
-pub pasted_as-once : (prefix : List ℕ) (scene : Scene) (clip : Clip) (a b : List ℕ) → IsPastedAs prefix scene clip a
+pasted_as-once : (prefix : List ℕ) (scene : Scene) (clip : Clip) (a b : List ℕ) → IsPastedAs prefix scene clip a
     → IsPastedAs prefix scene clip b → a ≡ b
 pasted_as-once prefix scene clip a b one two =
     let stored = board-same one.board two.board in
@@ -57,7 +57,7 @@ pasted_as-once prefix scene clip a b one two =
     two.stores in
     scene-once Compact one.head two.head one.all two.all a b head all one.shown two.shown
 
-pub existing-once : (prefix : List ℕ) (scene : Scene) (clip : Clip) (place other : ℕ)
+existing-once : (prefix : List ℕ) (scene : Scene) (clip : Clip) (place other : ℕ)
     → IsExisting prefix scene clip place → IsExisting prefix scene clip other → place ≡ other
 existing-once prefix scene clip place other one two =
     let stored = board-same one.board two.board in
@@ -66,7 +66,7 @@ existing-once prefix scene clip place other one two =
     ∙ two.exists in
     cc
 
-pub existing-none : (prefix : List ℕ) (scene : Scene) (clip : Clip) (place : ℕ) (text : List ℕ)
+existing-none : (prefix : List ℕ) (scene : Scene) (clip : Clip) (place : ℕ) (text : List ℕ)
     → IsExisting prefix scene clip place → IsPastedAs prefix scene clip text → ⊥
 existing-none prefix scene clip place text one two =
     let stored = board-same one.board two.board in
@@ -76,55 +76,58 @@ existing-none prefix scene clip place text one two =
     cc
 
 -- ---- answers
+-- what a clip that is pasted into a scene is answered with
+abbrev pub IsOfClip : List ℕ → Scene → Clip → Result (List ℕ) InputRefusal → Type 0
+IsOfClip prefix scene clip (Ok text) = IsPastedAs prefix scene clip text
+IsOfClip prefix scene clip (Err found) =
+    (place : ℕ) × (found ≡ refusal.Exists place) × IsExisting prefix scene clip place
+
+pub of_clip-once : (prefix : List ℕ) (scene : Scene) (clip : Clip) (answer other : Result (List ℕ) InputRefusal)
+    → IsOfClip prefix scene clip answer → IsOfClip prefix scene clip other → answer ≡ other
+of_clip-once prefix scene clip (Ok a) (Ok b) one two = ap Ok (pasted_as-once prefix scene clip a b one two)
+of_clip-once prefix scene clip (Ok a) (Err g) one (place, is, two) =
+    absurd (existing-none prefix scene clip place a two one)
+of_clip-once prefix scene clip (Err f) (Ok b) (place, is, one) two =
+    absurd (existing-none prefix scene clip place b one two)
+of_clip-once prefix scene clip (Err f) (Err g) (place, is, one) (other, also, two) =
+    ap Err (is ∙ (ap refusal.Exists (existing-once prefix scene clip place other one two) ∙ sym also))
+
+module _ (prefix bytes : List ℕ) (scene : Scene) (clip : Clip) (holds : HasSceneAndClip bytes scene clip) where
+  -- of another scene and clip of the same input, too
+  moved : (other : Scene) (own : Clip) → HasSceneAndClip bytes other own → (answer : Result (List ℕ) InputRefusal)
+      → IsOfClip prefix other own answer → IsOfClip prefix scene clip answer
+  moved other own (text, front, read) answer is =
+      let same = front-once bytes other scene text holds.0 None None front holds.1 in
+      let clips = clip-once holds.0 own clip (subst (λ t. IsClipOf t own) same.texts read) holds.2 in
+      subst (λ s. IsOfClip prefix s clip answer) same.scenes (subst (λ c. IsOfClip prefix other c answer) clips is)
+
+  -- a scene and a clip are answered so
+  pub of-clip : (answer : Result (List ℕ) InputRefusal) → IsAnswer (Paste prefix) bytes answer
+      → IsOfClip prefix scene clip answer
+  of-clip (Ok text) is = moved is.scene is.clip is.holds (Ok text) is.is
+  of-clip (Err found) (inl bad) =
+      absurd (second-none IsClip IsNoClip no-clip-once clip-none bytes found scene holds.0 bad holds.1 (clip, holds.2))
+  of-clip (Err found) (inr (place, same, is)) = moved is.scene is.clip is.holds (Err found) (place, same, is.is)
+
+  pub clip-pasted : (answer : Result (List ℕ) InputRefusal) → IsOfClip prefix scene clip answer
+      → IsAnswer (Paste prefix) bytes answer
+  clip-pasted (Ok text) is = record { scene = scene; clip = clip; holds = holds; is = is }
+  clip-pasted (Err found) (place, same, is) =
+      inr (place, same, record { scene = scene; clip = clip; holds = holds; is = is })
+
 pub pasted-once : (prefix bytes : List ℕ) (answer other : Result (List ℕ) InputRefusal)
     → IsAnswer (Paste prefix) bytes answer → IsAnswer (Paste prefix) bytes other → answer ≡ other
-pasted-once prefix bytes (Ok a) (Ok b) one two =
-    let same = front-once bytes one.scene two.scene one.holds.0 two.holds.0 None None one.holds.1 two.holds.1 in
-    let clip =
-    clip-once two.holds.0 one.clip two.clip (subst (λ t. IsClipOf t one.clip) same.texts one.holds.2) two.holds.2 in
-    ap Ok (pasted_as-once prefix two.scene two.clip a b (subst (λ s. IsPastedAs prefix s two.clip a) same.scenes
-    (subst (λ c. IsPastedAs prefix one.scene c a) clip one.is)) two.is)
-pasted-once prefix bytes (Ok a) (Err g) one (inl bad) =
-    absurd (second-none IsClip IsNoClip no-clip-once clip-none bytes g one.scene one.holds.0 bad one.holds.1 (
-      one.clip,
-      one.holds.2,
-    ))
-pasted-once prefix bytes (Ok a) (Err g) one (inr (place, is, two)) =
-    let same = front-once bytes one.scene two.scene one.holds.0 two.holds.0 None None one.holds.1 two.holds.1 in
-    let clip =
-    clip-once two.holds.0 one.clip two.clip (subst (λ t. IsClipOf t one.clip) same.texts one.holds.2) two.holds.2 in
-    absurd (existing-none prefix two.scene two.clip place a two.is
-    (subst (λ s. IsPastedAs prefix s two.clip a) same.scenes
-    (subst (λ c. IsPastedAs prefix one.scene c a) clip one.is)))
+pasted-once prefix bytes (Ok a) other one two =
+    of_clip-once prefix one.scene one.clip (Ok a) other one.is
+    (of-clip prefix bytes one.scene one.clip one.holds other two)
+pasted-once prefix bytes (Err f) other (inr (place, is, one)) two =
+    of_clip-once prefix one.scene one.clip (Err f) other (place, is, one.is)
+    (of-clip prefix bytes one.scene one.clip one.holds other two)
 pasted-once prefix bytes (Err f) (Ok b) (inl bad) two =
-    absurd (second-none IsClip IsNoClip no-clip-once clip-none bytes f two.scene two.holds.0 bad two.holds.1 (
-      two.clip,
-      two.holds.2,
-    ))
-pasted-once prefix bytes (Err f) (Ok b) (inr (place, is, one)) two =
-    let same = front-once bytes one.scene two.scene one.holds.0 two.holds.0 None None one.holds.1 two.holds.1 in
-    let clip =
-    clip-once two.holds.0 one.clip two.clip (subst (λ t. IsClipOf t one.clip) same.texts one.holds.2) two.holds.2 in
-    absurd (existing-none prefix two.scene two.clip place b
-    (subst (λ s. IsExisting prefix s two.clip place) same.scenes
-    (subst (λ c. IsExisting prefix one.scene c place) clip one.is)) two.is)
+    of_clip-once prefix two.scene two.clip (Err f) (Ok b)
+    (of-clip prefix bytes two.scene two.clip two.holds (Err f) (inl bad)) two.is
 pasted-once prefix bytes (Err f) (Err g) (inl bad) (inl also) =
     ap Err (second-once IsClip IsNoClip no-clip-once clip-none bytes f g bad also)
 pasted-once prefix bytes (Err f) (Err g) (inl bad) (inr (place, is, two)) =
-    absurd (second-none IsClip IsNoClip no-clip-once clip-none bytes f two.scene two.holds.0 bad two.holds.1 (
-      two.clip,
-      two.holds.2,
-    ))
-pasted-once prefix bytes (Err f) (Err g) (inr (place, is, one)) (inl bad) =
-    absurd (second-none IsClip IsNoClip no-clip-once clip-none bytes g one.scene one.holds.0 bad one.holds.1 (
-      one.clip,
-      one.holds.2,
-    ))
-pasted-once prefix bytes (Err f) (Err g) (inr (place, is, one)) (inr (other, also, two)) =
-    let same = front-once bytes one.scene two.scene one.holds.0 two.holds.0 None None one.holds.1 two.holds.1 in
-    let clip =
-    clip-once two.holds.0 one.clip two.clip (subst (λ t. IsClipOf t one.clip) same.texts one.holds.2) two.holds.2 in
-    let places = existing-once prefix two.scene two.clip place other
-    (subst (λ s. IsExisting prefix s two.clip place) same.scenes
-    (subst (λ c. IsExisting prefix one.scene c place) clip one.is)) two.is in
-    ap Err (is ∙ (ap refusal.Exists places ∙ sym also))
+    of_clip-once prefix two.scene two.clip (Err f) (Err g)
+    (of-clip prefix bytes two.scene two.clip two.holds (Err f) (inl bad)) (place, is, two.is)

@@ -5,11 +5,10 @@ use Rattle.json_text.specs.Value.{Stands}
 use Rattle.json_text.proofs.CallerLemmas.{Value-compact, Runs-either}
 use Rattle.json_reader.proofs.CallerLemmas.{value-or-fault}
 use Rattle.intake.specs.Texts.{TextsLead}
-use Rattle.library.specs.Items.{library_text}
 use Rattle.library.specs.Libraries.{HaveItems}
 use Rattle.library.specs.Reading.{IsLibraryOf}
 use Rattle.library.specs.declared.item.Item.{Item}
-use Rattle.library.proofs.CallerLemmas.{best-exist, library-or-fault}
+use Rattle.library.proofs.CallerLemmas.{library-exists, library-or-fault}
 use Rattle.scene_file.specs.declared.fault.SceneFault.TheVariants.{Json}
 use Rattle.scene_file.proofs.CallerLemmas.{Stands-behind}
 use Rattle.commands.specs.Answers.{IsAnswer}
@@ -95,18 +94,15 @@ held-from bytes (suc left) at texts items within near lead have =
 held : (bytes : List ℕ) → Held bytes
 held bytes = held-from bytes (length bytes) 0 [] [] (omega arith) (omega arith) refl refl
 
+-- libraries are answered with one
+pub shelf-answered : (bytes : List ℕ) (texts : List (List ℕ)) (items : List Item) → HasTexts bytes texts
+    → HaveItems texts items → (text : List ℕ) × IsAnswer Library bytes (Ok text)
+shelf-answered bytes texts items holds have =
+    let made = library-exists texts items have in
+    (made.0 ++ newline, record { texts = texts; holds = holds; written = made.0; library = made.1; ended = refl })
+
 pub shelf-exists : (bytes : List ℕ) → (answer : Result (List ℕ) InputRefusal) × IsAnswer Library bytes answer
 shelf-exists bytes = elim (held bytes) [
-  | inl (texts, items, holds, have) ↦
-      let best = best-exist items in (
-        Ok (library_text best.0 ++ newline),
-        record {
-          texts = texts;
-          holds = holds;
-          written = library_text best.0;
-          library = record { items = items; read = have; best = best.0; are_best = best.1; output_is = refl };
-          ended = refl;
-        },
-      )
+  | inl (texts, items, holds, have) ↦ let made = shelf-answered bytes texts items holds have in (Ok made.0, made.1)
   | inr (found, is) ↦ (Err found, is)
 ]

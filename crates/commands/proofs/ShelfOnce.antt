@@ -17,7 +17,7 @@ use Rattle.scene_file.specs.declared.fault.SceneFault.TheVariants.{Json}
 use Rattle.scene_file.proofs.CallerLemmas.{Stands-no_blank, fault-once}
 use Rattle.commands.specs.Answers.{IsAnswer}
 use Rattle.commands.specs.Faults.{newline}
-use Rattle.commands.specs.Shelves.{HasFaultyLibrary, HasFaultyValue, HasLibrariesTo, IsShelfRefusal, IsShelved}
+use Rattle.commands.specs.Shelves.{HasFaultyLibrary, HasFaultyValue, HasLibrariesTo, HasTexts, IsShelfRefusal, IsShelved}
 use Rattle.commands.specs.declared.status.InputRefusal.{InputRefusal}
 use Rattle.commands.specs.declared.status.InputRefusal.TheVariants as refusal
 use Rattle.commands.specs.declared.words.ProgramCommand.TheVariants.{Library}
@@ -145,14 +145,20 @@ shelf-none bytes text f is (inl (n, fault, also, (start, count, counted, to, fau
 shelf-none bytes text f is (inr (n, fault, also, (start, count, counted, to, (word, rest, stands, faulty)))) =
     none-behind bytes text start count is to (library-none bytes start word rest fault stands faulty)
 
-shelved-once : (bytes text other : List ℕ) → IsShelved bytes text → IsShelved bytes other → text ≡ other
+-- an input that is libraries is one list of them
+pub texts-once : (bytes : List ℕ) (texts others : List (List ℕ)) (items news : List Item) → HasTexts bytes texts
+    → HaveItems texts items → HasTexts bytes others → HaveItems others news → texts ≡ others
+texts-once bytes texts others items news holds have also read =
+    (leads-once bytes holds.rest also.rest texts others items news have read holds.lead also.lead
+    (blank-none holds.rest holds.space) (blank-none also.rest also.space)).0
+
+pub shelved-once : (bytes text other : List ℕ) → IsShelved bytes text → IsShelved bytes other → text ≡ other
 shelved-once bytes text other one two =
-    let both = leads-once bytes one.holds.rest two.holds.rest one.texts two.texts one.library.items two.library.items
-    one.library.read two.library.read one.holds.lead two.holds.lead
-    (blank-none one.holds.rest one.holds.space) (blank-none two.holds.rest two.holds.space) in
+    let texts = texts-once bytes one.texts two.texts one.library.items two.library.items one.holds one.library.read
+    two.holds two.library.read in
     one.ended
     ∙ (ap (λ t. t ++ newline) (library_of-once two.texts one.written two.written
-    (subst (λ ts. IsLibraryOfAll ts one.written) both.0 one.library) two.library) ∙ sym two.ended)
+    (subst (λ ts. IsLibraryOfAll ts one.written) texts one.library) two.library) ∙ sym two.ended)
 
 pub shelf-once : (bytes : List ℕ) (answer other : Result (List ℕ) InputRefusal) → IsAnswer Library bytes answer
     → IsAnswer Library bytes other → answer ≡ other

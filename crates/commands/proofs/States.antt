@@ -15,7 +15,7 @@ use Rattle.scene_file.specs.Heads.{Heading, lesser_source, least_source, setting
 use Rattle.scene_file.specs.Reading.{IsSceneAt}
 use Rattle.scene_file.specs.declared.scene.Scene.{Scene}
 use Rattle.scene_file.proofs.CallerLemmas.{lesser_source-none, lesser_source-assoc, scene-behind, scene-before, state-back}
-use Rattle.commands.specs.Again.{TakesScenes, AreStates}
+use Rattle.commands.specs.Again.{TakesScenes, AreAnswers}
 use Rattle.commands.specs.Answers.{IsAnswer, IsShownAs, IsStoredAs, HasPictures}
 use Rattle.commands.specs.Boards.{IsBoardOf, heads_of, updates_of}
 use Rattle.commands.specs.Faults.{newline}
@@ -204,7 +204,7 @@ stand-append input state more others first second = record {
 }
 
 states-stand : (input state : List ℕ) (inputs states : List (List ℕ)) → IsAnswer State input (Ok state)
-    → AreStates inputs states → Stand (concat (input ∷ inputs)) (concat (state ∷ states))
+    → AreAnswers State inputs states → Stand (concat (input ∷ inputs)) (concat (state ∷ states))
 states-stand input state [] [] is are =
     subst₂ Stand (sym (append-nil input)) (sym (append-nil state)) (state-stands input state is)
 states-stand input state [] (other ∷ states) is are = absurd are
@@ -264,7 +264,7 @@ answer-same Library bytes text other scenes others takes has also same is = absu
 answer-same (Insert insertion) bytes text other scenes others takes has also same is = absurd takes
 
 pub states-stand_for : (command : ProgramCommand) (inputs states : List (List ℕ)) (text : List ℕ) → TakesScenes command
-    → AreStates inputs states
+    → AreAnswers State inputs states
     → IsAnswer command (concat states) (Ok text) ↔ IsAnswer command (concat inputs) (Ok text)
 states-stand_for command [] [] text takes are = (λ is. is, λ is. is)
 states-stand_for command [] (state ∷ states) text takes are = absurd are

@@ -31,18 +31,18 @@ TakesScenes (Paste prefix) = ⊥
 TakesScenes Library = ⊥
 TakesScenes (Insert insertion) = ⊥
 
--- Each text is the state of the input at its place.
-abbrev pub AreStates : List (List ℕ) → List (List ℕ) → Type 0
-AreStates [] [] = Unit {0}
-AreStates [] (state ∷ states) = ⊥
-AreStates (input ∷ inputs) [] = ⊥
-AreStates (input ∷ inputs) (state ∷ states) =
-    IsAnswer State input (Ok state) × AreStates inputs states
+-- Each text is what the command answers the input at its place with.
+abbrev pub AreAnswers : ProgramCommand → List (List ℕ) → List (List ℕ) → Type 0
+AreAnswers command [] [] = Unit {0}
+AreAnswers command [] (text ∷ texts) = ⊥
+AreAnswers command (input ∷ inputs) [] = ⊥
+AreAnswers command (input ∷ inputs) (text ∷ texts) =
+    IsAnswer command input (Ok text) × AreAnswers command inputs texts
 
 -- The states of inputs stand for these: a merge, and each other command over scenes, is resumed
 -- from them.
 abbrev pub StatesStandFor : Type 0
 StatesStandFor =
     (command : ProgramCommand) (inputs states : List (List ℕ)) (text : List ℕ) → TakesScenes command
-    → AreStates inputs states
+    → AreAnswers State inputs states
     → IsAnswer command (concat states) (Ok text) ↔ IsAnswer command (concat inputs) (Ok text)

@@ -59,6 +59,7 @@ line_of (fault.Refused (refusal.Event number found)) =
     text_line number (sessions.session_fault_words found)
 line_of (fault.Refused refusal.TooMany) = codes "board: more than 250000 events" ++ newline
 line_of (fault.Refused (refusal.Line number found)) = text_line number (line_fault_words found)
+line_of (fault.Refused refusal.NoRecord) = text_line 1 (codes "no record")
 line_of (fault.Refused (refusal.Clip found)) = text_line 2 (clip_fault_words found)
 line_of (fault.Refused (refusal.Library number found)) = text_line number (lib_fault_words found)
 line_of (fault.Refused refusal.NoItem) = text_line 2 (codes "no item")

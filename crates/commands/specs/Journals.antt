@@ -1,7 +1,7 @@
 -- What is told of a journal that is recovered. This project's own.
-use Rattle.std.specs.Prelude.{◌≡◌, ℕ, List, ◌++◌, Ok, Err}
+use Rattle.std.specs.Prelude.{◌≡◌, ◌⊎◌, ℕ, List, ◌++◌, Ok, Err}
 use Rattle.elem.specs.ElementValue.{ElementValue}
-use Rattle.room_disk.specs.Recovering.{Recovered, IsRecoveredAs}
+use Rattle.room_disk.specs.Recovering.{HasNoRecord, Recovered, IsRecoveredAs}
 use Rattle.room_disk.specs.declared.fault.KeepFault.TheVariants.{Line}
 use Rattle.room_disk.specs.declared.fault.LineFault.{LineFault}
 use Rattle.scene_file.specs.Heads.{Heading}
@@ -31,3 +31,9 @@ abbrev pub IsJournalRefusal : List ℕ → InputRefusal → Type 0
 IsJournalRefusal bytes found =
     (number : ℕ) × (fault : LineFault) × (found ≡ refusal.Line number fault)
     × IsRecoveredAs bytes (Err (Line number fault))
+
+-- The first fault of an input that a room is to be resumed from: it has bytes and no record; or its
+-- first faulty line has it.
+abbrev pub IsResumeRefusal : List ℕ → InputRefusal → Type 0
+IsResumeRefusal bytes found =
+    ((found ≡ refusal.NoRecord) × HasNoRecord bytes) ⊎ IsJournalRefusal bytes found

@@ -5,7 +5,7 @@ use Rattle.board_ends.specs.Counts.{Rose}
 use Rattle.board_ends.specs.Ends.{SourceEnd, SinkEnd}
 use Rattle.room_core.specs.Rooms.{RoomState}
 use Rattle.room_disk.specs.Keeping.{IsKept, IsUnopened}
-use Rattle.room_disk.specs.Recovering.{Recovered, IsRecoveredAs}
+use Rattle.room_disk.specs.Recovering.{HasNoRecord, Recovered, IsRecoveredAs}
 use Rattle.room_disk.specs.Resuming.{resumed}
 use Rattle.room_disk.specs.declared.keep_end.KeepEnd.{KeepEnd}
 use Rattle.room_disk.specs.declared.keep_end.KeepEnd.TheVariants.{AllClosed, Idle as IdleEnd, LinkFault as LinkEnd, LinksFull, EventsFull, JournalFault, Memory as MemoryEnd}
@@ -15,7 +15,7 @@ use Rattle.commands.specs.Boards.{IsBoardOf}
 use Rattle.commands.specs.Ends.{Span, GaveWithin, GaveTooMuch, WasRead, limit}
 use Rattle.commands.specs.Faults.{newline, status_of, Noted, IsNoted}
 use Rattle.commands.specs.Input.{HasScenes}
-use Rattle.commands.specs.Journals.{IsJournalRefusal}
+use Rattle.commands.specs.Journals.{IsResumeRefusal}
 use Rattle.commands.specs.Serving.{Begun, Ends, room_of}
 use Rattle.commands.specs.declared.status.Fault.{Fault}
 use Rattle.commands.specs.declared.status.Fault.TheVariants as fault
@@ -32,19 +32,19 @@ limit_from Scenes = limit
 limit_from Journal = None
 
 -- What a durable room begins with over these bytes: the board of the scenes that they hold; or what
--- is recovered of the journal that they are, where each stored element without a key gets one above
--- the greatest of all.
+-- is recovered of the journal that they are, each stored element without a key with one above the
+-- greatest of all. A journal is empty, or has a record.
 abbrev pub BeginsWith : Begins → List ℕ → Begun → Type 0
 BeginsWith Scenes bytes begun =
     (scenes : List Scene) × HasScenes bytes scenes × IsBoardOf scenes begun.head begun.stored
 BeginsWith Journal bytes begun =
-    (found : Recovered) × IsRecoveredAs bytes (Ok found)
+    (found : Recovered) × (¬ HasNoRecord bytes) × IsRecoveredAs bytes (Ok found)
     × (begun ≡ record { head = found.head; stored = resumed found.elements })
 
 -- the first fault of bytes with which no room begins
 abbrev pub IsBeginsRefusal : Begins → List ℕ → InputRefusal → Type 0
 IsBeginsRefusal Scenes bytes found = IsRefusal bytes found
-IsBeginsRefusal Journal bytes found = IsJournalRefusal bytes found
+IsBeginsRefusal Journal bytes found = IsResumeRefusal bytes found
 
 -- The input, read to its end, says what a durable room begins with; the room was served to this
 -- end. Either its first record wasn't made safe, and nobody listened; or the links listened, and

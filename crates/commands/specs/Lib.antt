@@ -9,6 +9,9 @@ pub mod Fronts
 pub mod Input
 pub mod Journals
 pub mod Keeping
+pub mod KeptRooms
+pub mod KeptRuns
+pub mod Libraries
 pub mod Members
 pub mod Pastes
 pub mod Pictures

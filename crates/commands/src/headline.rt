@@ -4,6 +4,7 @@
 ghost use Rattle.commands.specs.Again.{RestoresOnce, RestoresMerges, StatesStandFor};
 ghost use Rattle.commands.specs.Answers.{Converges};
 ghost use Rattle.commands.specs.Drills.{DrillsAgree};
+ghost use Rattle.commands.specs.Libraries.{InsertsArePastes, LibrariesStandFor, LibraryIsItsOwn, SameItemsSameLibrary};
 ghost use Rattle.commands.specs.Members.{MembersAgree, MembersStoreTheRoom};
 ghost use Rattle.commands.specs.Replays.{ChangesAreCaptured, HasLaws, NothingIsPending, OfAll, OthersChangesStay, PrintedScenesAgree, RedoIsFound, RedoRepeats, ReplicasConverge, ReplicasStoreTheBest, ToldAllStoreTheSame, UndoBringsBack, UndoIsFound};
 
@@ -13,6 +14,14 @@ pub(crate) fn merges_hold()
     ensures restores_once { RestoresOnce }
     ensures restores_merges { RestoresMerges }
     ensures states_stand_for { StatesStandFor }
+{}
+
+/// What holds of inputs that are libraries, and of a scene with one behind it.
+pub(crate) fn libraries_hold()
+    ensures library_is_its_own { LibraryIsItsOwn }
+    ensures libraries_stand_for { LibrariesStandFor }
+    ensures same_items_same_library { SameItemsSameLibrary }
+    ensures inserts_are_pastes { InsertsArePastes }
 {}
 
 /// What holds of the replicas of every session.

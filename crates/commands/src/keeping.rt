@@ -11,7 +11,7 @@ ghost use Rattle.commands.specs.Serving.{ends};
 ghost use Rattle.commands.specs.inner.Services.{IsKeeping};
 
 use crate::input::some_board;
-use crate::recovering::recovered;
+use crate::recovering::recorded;
 use crate::status::{Fault, Status};
 use crate::words::{Begins, Keeping};
 use board_base::Piece;
@@ -70,7 +70,7 @@ fn begun<S: Source>(alloc: Global, begins: Begins, input: &mut S) -> Result<(Hea
     match begins {
         Begins::Scenes => some_board(alloc, input),
         Begins::Journal => {
-            let (head, store) = recovered(alloc, input)?;
+            let (head, store) = recorded(alloc, input)?;
             Ok((head, resume(alloc, store)?))
         }
     }

@@ -1,18 +1,22 @@
 //! Laws on what inputs are answered with, for all inputs. They do nothing when they run.
 
-ghost use Rattle.std.specs.Prelude.{◌≡◌, ◌↔◌, ℕ, List, ◌++◌, Result, Ok, Some};
+ghost use Rattle.std.specs.Prelude.{◌≡◌, ◌↔◌, ℕ, List, [], ◌∷◌, ◌++◌, Result, Ok, Some};
 ghost use Rattle.elem.specs.ElementValue.{ElementValue};
 ghost use Rattle.elem_store.specs.Updates.{AreBest};
+ghost use Rattle.library.specs.Libraries.{HaveItems};
+ghost use Rattle.library.specs.declared.item.Item.{Item};
 ghost use Rattle.scene_file.specs.Heads.{Heading, IsJoinedHead};
 ghost use Rattle.scene_file.specs.Texts.{IsSceneText};
 ghost use Rattle.scene_file.specs.declared.layout.Layout.{Layout};
 ghost use Rattle.scene_file.specs.declared.scene.Scene.{Scene};
+ghost use Rattle.commands.specs.Again.{TakesScenes};
 ghost use Rattle.commands.specs.Answers.{IsAnswer};
 ghost use Rattle.commands.specs.Boards.{heads_of, updates_of, shown_of};
 ghost use Rattle.commands.specs.Drills.{IsDrilled};
 ghost use Rattle.commands.specs.Faults.{newline};
 ghost use Rattle.commands.specs.Input.{HasScenes};
 ghost use Rattle.commands.specs.Services.{IsDrillWithinLimits};
+ghost use Rattle.commands.specs.Shelves.{HasTexts};
 ghost use Rattle.commands.specs.Words.{asked, words_of, HasNames};
 ghost use Rattle.commands.specs.declared.status.InputRefusal.{InputRefusal};
 ghost use Rattle.commands.specs.declared.words.ProgramCommand.{ProgramCommand};
@@ -41,6 +45,24 @@ pub fn answer_is_unique()
     ensures { (command : ProgramCommand) (bytes : List ℕ)
         (answer other : Result (List ℕ) InputRefusal)
         → IsAnswer command bytes answer → IsAnswer command bytes other → answer ≡ other }
+{}
+
+/// Scenes are answered with a text by each command that takes any number of them, and one scene by
+/// `restore`, too.
+pub fn scenes_are_answered()
+    ensures scenes { (command : ProgramCommand) (bytes : List ℕ) (scenes : List Scene)
+        → TakesScenes command → HasScenes bytes scenes
+        → (text : List ℕ) × IsAnswer command bytes (Ok text) }
+    ensures scene { (layout : Layout) (bytes : List ℕ) (scene : Scene)
+        → HasScenes bytes (scene ∷ [])
+        → (text : List ℕ) × IsAnswer (ProgramCommand.Restore layout) bytes (Ok text) }
+{}
+
+/// Libraries are answered with a text by `library`.
+pub fn libraries_are_answered()
+    ensures { (bytes : List ℕ) (texts : List (List ℕ)) (items : List Item)
+        → HasTexts bytes texts → HaveItems texts items
+        → (text : List ℕ) × IsAnswer ProgramCommand.Library bytes (Ok text) }
 {}
 
 /// The best update of each id makes the text of a merge.

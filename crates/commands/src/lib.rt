@@ -4,6 +4,7 @@
 
 mod answer;
 mod drilling;
+mod durable;
 mod front;
 mod headline;
 mod heads;

@@ -10,6 +10,9 @@ ghost use Rattle.commands.specs.Drills.{DrillsAgree, EndsDrilling};
 ghost use Rattle.commands.specs.Ends.{span, limit, limit_of, EndsWith, GaveWithin, GaveTooMuch, HasLeft, WasDone, WasDoneInPart, WasRefused};
 ghost use Rattle.commands.specs.Faults.{status_of, Noted};
 ghost use Rattle.commands.specs.Keeping.{limit_from, EndsKeeping, KeepsInput};
+ghost use Rattle.commands.specs.Libraries.{InsertsArePastes, LibrariesStandFor, LibraryIsItsOwn, SameItemsSameLibrary};
+ghost use Rattle.commands.specs.KeptRooms.{IsKeptToClose, KeptMembersAgree, MembersStoreTheKeptRoom};
+ghost use Rattle.commands.specs.KeptRuns.{NothingKeptIsLost};
 ghost use Rattle.commands.specs.Members.{MembersAgree, MembersStoreTheRoom};
 ghost use Rattle.commands.specs.Replays.{ChangesAreCaptured, NothingIsPending, OthersChangesStay, PrintedScenesAgree, RedoIsFound, RedoRepeats, ReplicasConverge, ReplicasStoreTheBest, ToldAllStoreTheSame, UndoBringsBack, UndoIsFound, WroteLawfulReport};
 ghost use Rattle.commands.specs.Services.{IsDrillWithinLimits};
@@ -27,7 +30,8 @@ ghost use Rattle.commands.specs.declared.words.Service.{Service};
 
 use crate::answer::answer;
 use crate::drilling::drill;
-use crate::headline::{drills_hold, members_hold, merges_hold, replicas_hold};
+use crate::durable::kept_rooms_hold;
+use crate::headline::{drills_hold, libraries_hold, members_hold, merges_hold, replicas_hold};
 use crate::keeping::{keep, noted_keep_end};
 use crate::serving::{noted_end, serve};
 use crate::status::{Fault, Status};
@@ -40,7 +44,8 @@ use std::alloc::{AllocError, Global};
 
 /// Does what the words ask for, over this input, output and links. On every answer but `Done` and
 /// `Idle` one line on the fault goes to the notes; a fault of the notes changes no status. The
-/// whole output is made before its first byte is written. No command but `serve` calls the links.
+/// whole output is made before its first byte is written, but for the journal of a durable room,
+/// which is written while it runs. No command but `serve` calls the links.
 pub fn board<S: Source, K: Journal, N: Sink, L: Links>(
     alloc: Global,
     words: &[Bytes],
@@ -151,6 +156,14 @@ pub fn board<S: Source, K: Journal, N: Sink, L: Links>(
         (span (K.seen output.old) (K.seen output.new)) (span (L.seen links.old) (L.seen links.new)))
         (span (N.seen notes.old) (N.seen notes.new)) result }
 
+    // Where a durable room begins with the input, no end fails and the links lead it to a close:
+    // Done, or memory is wanted.
+    ensures keep_complete { (keeping : Keeping) → asked words.now ≡ Some (Request.Keep keeping)
+        → IsKeptToClose keeping
+        (ends (span (S.seen input.old) (S.seen input.new))
+        (span (K.seen output.old) (K.seen output.new))
+        (span (L.seen links.old) (L.seen links.new))) result }
+
     // Where the input tells its bytes and doesn't fail, a room that begins with them is kept, or
     // they are refused with their first fault; and an input that is too long is refused; or memory
     // is wanted.
@@ -225,6 +238,12 @@ pub fn board<S: Source, K: Journal, N: Sink, L: Links>(
     ensures members_store_the_room { MembersStoreTheRoom }
     ensures members_agree { MembersAgree }
 
+    // And so in every durable room. Over runs, each resumed from what was left of the journal of
+    // the one before, nothing is lost that was kept in any.
+    ensures members_store_the_kept_room { MembersStoreTheKeptRoom }
+    ensures kept_members_agree { KeptMembersAgree }
+    ensures nothing_kept_is_lost { NothingKeptIsLost }
+
     // In every drill no two updates clash, and its four replicas show one scene.
     ensures drills_agree { DrillsAgree }
 
@@ -233,11 +252,20 @@ pub fn board<S: Source, K: Journal, N: Sink, L: Links>(
     ensures restores_once { RestoresOnce }
     ensures restores_merges { RestoresMerges }
     ensures states_stand_for { StatesStandFor }
+
+    // What `library` wrote is its own library; the libraries of inputs stand for these, and inputs
+    // with the same items have one library; and an item is inserted as its elements are pasted.
+    ensures library_is_its_own { LibraryIsItsOwn }
+    ensures libraries_stand_for { LibrariesStandFor }
+    ensures same_items_same_library { SameItemsSameLibrary }
+    ensures inserts_are_pastes { InsertsArePastes }
 {
     merges_hold();
+    libraries_hold();
     replicas_hold();
     members_hold();
     drills_hold();
+    kept_rooms_hold();
     match request(alloc, words) {
         Ok(Request::Answer(command)) => answer_run(alloc, command, input, output, notes),
         Ok(Request::Drill(drill)) => drill_run(alloc, drill, output, notes),
@@ -380,10 +408,15 @@ fn keep_run<S: Source, K: Journal, N: Sink, L: Links>(
         (ends (span (S.seen input.old) (S.seen input.new))
         (span (K.seen output.old) (K.seen output.new)) (span (L.seen links.old) (L.seen links.new)))
         (span (N.seen notes.old) (N.seen notes.new)) result }
+    ensures complete { IsKeptToClose keeping
+        (ends (span (S.seen input.old) (S.seen input.new))
+        (span (K.seen output.old) (K.seen output.new))
+        (span (L.seen links.old) (L.seen links.new))) result }
     ensures notes_kept { (result ≡ Status.Done) ⊎ (result ≡ Status.Idle) → notes.new ≡ notes.old }
     ensures unwritten { result ≡ Status.ReadFault → output.new ≡ output.old }
     ensures unserved { result ≡ Status.ReadFault → links.new ≡ links.old }
 {
+    room_disk::laws::closing_ends_a_kept_room();
     match keep(alloc, keeping, input, output, links) {
         Ok(end) => noted_keep_end(end, notes),
         Err(fault) => fault.noted(notes),

@@ -71,6 +71,8 @@ pub enum InputRefusal {
     TooMany,
     /// The line with this number of a journal, counted from 1, has this fault.
     Line(u64, LineFault),
+    /// A journal to resume from isn't empty, and no line of it ends.
+    NoRecord,
     /// The second text is to be a clip, and has this fault.
     Clip(ClipFault),
     /// The text with this number, counted from 1, is to be a library, and has this fault.
@@ -181,6 +183,14 @@ impl Fault {
                 let [first, second, third, fourth] = found.pieces();
                 text_line(number, ": ", first, second, third, fourth)
             }
+            Fault::Refused(InputRefusal::NoRecord) => text_line(
+                1,
+                ": no record",
+                NONE,
+                NONE,
+                NONE,
+                NONE,
+            ),
             Fault::Refused(InputRefusal::Clip(found)) => {
                 let [first, second, third, fourth] = found.pieces();
                 text_line(2, ": ", first, second, third, fourth)

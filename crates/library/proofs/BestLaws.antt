@@ -211,42 +211,55 @@ AreBest-itself items rise = record {
 pub AreBest-best : (items best : List Item) → AreBest items best → AreBest best best
 AreBest-best items best h = AreBest-itself best h.ordered
 
+-- The latter items stand for the former: they are among these, and each of these has one of its id among them that it
+-- isn't better than.
+pub record StandFor (news items : List Item) : Type 0 where
+  pub among : (item : Item) → Contains news item → Contains items item
+  pub unbeaten : (item : Item) → Contains items item
+      → (new : Item) × Contains news new × (new.id ≡ item.id) × (is_better item new ≡ false)
+
+pub best-stand : (items best : List Item) → AreBest items best → StandFor best items
+best-stand items best h = record {
+  among = λ item c. (h.each_is_best item c).among;
+  unbeaten = λ item c.
+      let there = item_among best item.id (h.each_id item c) in
+      (there.0, there.1, there.2, (h.each_is_best there.0 there.1).unbeaten item c (sym there.2));
+}
+
+pub stand-append : (items others news more : List Item) → StandFor news items → StandFor more others
+    → StandFor (news ++ more) (items ++ others)
+stand-append items others news more h k = record {
+  among = λ item c. elim (Contains-append_cases news more item c) [
+    | inl l ↦ Contains-append_left items others item (h.among item l)
+    | inr r ↦ Contains-append_right items others item (k.among item r)
+  ];
+  unbeaten = λ item c. elim (Contains-append_cases items others item c) [
+    | inl l ↦ let new = h.unbeaten item l in (new.0, Contains-append_left news more new.0 new.1, new.2, new.3)
+    | inr r ↦ let new = k.unbeaten item r in (new.0, Contains-append_right news more new.0 new.1, new.2, new.3)
+  ];
+}
+
+-- the best of items that stand for others are the best of these
+pub stand-best : (items news best : List Item) → StandFor news items → AreBest news best → AreBest items best
+stand-best items news best h m = record {
+  ordered = m.ordered;
+  each_is_best = λ x c.
+      let b = m.each_is_best x c in record {
+        among = h.among x b.among;
+        unbeaten = λ other d e.
+            let new = h.unbeaten other d in better-below x new.0 other (b.unbeaten new.0 new.1 (new.2 ∙ e)) new.3;
+      };
+  each_id = λ item c.
+      let new = h.unbeaten item c in
+      subst (Contains (ids_of best)) new.2 (m.each_id new.0 new.1);
+}
+
 -- of two lists joined end to end the best are those of the best of both
 pub AreBest-append : (items others best news all : List Item) → AreBest items best → AreBest others news
     → AreBest (best ++ news) all → AreBest (items ++ others) all
-AreBest-append items others best news all h k m = record { ordered = m.ordered; each_is_best = each; each_id = ids }
-  where
-    -- what isn't better than the one of its id in a list of best items isn't better than what that one isn't better
-    -- than
-    below : (list chosen : List Item) (x other : Item) → AreBest list chosen
-        → ((y : Item) → Contains chosen y → y.id ≡ x.id → is_better y x ≡ false) → Contains list other → other.id ≡ x.id
-        → is_better other x ≡ false
-    below list chosen x other b none c e =
-        let there = item_among chosen other.id (b.each_id other c) in
-        better-below x there.0 other (none there.0 there.1 (there.2 ∙ e))
-        ((b.each_is_best there.0 there.1).unbeaten other c (sym there.2))
-
-    each : (x : Item) → Contains all x → IsBest (items ++ others) x
-    each x c =
-        let b = m.each_is_best x c in record {
-          among = elim (Contains-append_cases best news x b.among) [
-            | inl l ↦ Contains-append_left items others x (h.each_is_best x l).among
-            | inr r ↦ Contains-append_right items others x (k.each_is_best x r).among
-          ];
-          unbeaten = λ other d e. elim (Contains-append_cases items others other d) [
-            | inl l ↦ below items best x other h (λ y cy ey. b.unbeaten y (Contains-append_left best news y cy) ey) l e
-            | inr r ↦ below others news x other k (λ y cy ey. b.unbeaten y (Contains-append_right best news y cy) ey) r
-                e
-          ];
-        }
-
-    ids : (y : Item) → Contains (items ++ others) y → Contains (ids_of all) y.id
-    ids y c = elim (Contains-append_cases items others y c) [
-      | inl l ↦ let there = item_among best y.id (h.each_id y l) in
-          subst (Contains (ids_of all)) there.2 (m.each_id there.0 (Contains-append_left best news there.0 there.1))
-      | inr r ↦ let there = item_among news y.id (k.each_id y r) in
-          subst (Contains (ids_of all)) there.2 (m.each_id there.0 (Contains-append_right best news there.0 there.1))
-    ]
+AreBest-append items others best news all h k =
+    stand-best (items ++ others) (best ++ news) all
+    (stand-append items others best news (best-stand items best h) (best-stand others news k))
 
 -- ---- what is found among best items
 pub best-found : (items best : List Item) (id : List ℕ) (item : Item) → AreBest items best → item_of best id ≡ Some item

@@ -8,6 +8,7 @@ pub mod ItemOnce
 pub mod LibraryOnce
 pub mod Whole
 pub mod Existing
+pub mod Standing
 pub mod LibraryLaws
 pub mod ItemClips
 pub mod ItemsReading

@@ -2,11 +2,11 @@
 use Rattle.std.proofs.Common.{◌≡◌, ℕ, List, [], ◌∷◌, ◌++◌, None, All, Contains, map, refl, sym, ap, ap₂, subst, ◌∙◌, append_assoc, append-nil, arith}
 use Rattle.std.proofs.lemmas.List.Elements.{All-append, All-contains, All-contains_itself, All-weaker}
 use Rattle.library.specs.Best.{AreBest, HaveSameItems, IsBest}
-use Rattle.library.specs.Items.{item_text}
+use Rattle.library.specs.Items.{item_text, library_text}
 use Rattle.library.specs.Libraries.{HaveItems, HaveSameItemsIn, IsLibraryOfAll}
 use Rattle.library.specs.Reading.{IsItemIn, IsLibraryOf, IsWholeItem}
 use Rattle.library.specs.declared.item.Item.{Item}
-use Rattle.library.proofs.BestLaws.{AreBest-append, AreBest-best, best-alike, best-back, library-same, IsTied}
+use Rattle.library.proofs.BestLaws.{AreBest-best, StandFor, best-alike, best-back, best-exist, best-stand, library-same, stand-append, stand-best, IsTied}
 use Rattle.library.proofs.ItemOnce.{item-once}
 use Rattle.library.proofs.LibraryOnce.{library-once}
 use Rattle.library.proofs.OrderLaws.{better-neither}
@@ -54,7 +54,7 @@ whole-best items best whole h =
     (All-contains_itself best)
 
 -- ---- the items of texts
-have-append : (texts others : List (List ℕ)) (items more : List Item) → HaveItems texts items → HaveItems others more
+pub have-append : (texts others : List (List ℕ)) (items more : List Item) → HaveItems texts items → HaveItems others more
     → HaveItems (texts ++ others) (items ++ more)
 have-append [] others items more one two = subst (λ xs. HaveItems others (xs ++ more)) (sym one) two
 have-append (text ∷ texts) others items more (own, rest, all, is, one) two = (
@@ -89,6 +89,22 @@ library-of_set texts others output other same one two =
     one.are_best two.are_best
     ∙ sym two.output_is
 
+-- texts of libraries have a library
+pub library-exists : (texts : List (List ℕ)) (items : List Item) → HaveItems texts items → (output : List ℕ)
+    × IsLibraryOfAll texts output
+library-exists texts items have =
+    let best = best-exist items in (
+      library_text best.0,
+      record { items = items; read = have; best = best.0; are_best = best.1; output_is = refl },
+    )
+
+-- and texts with the same items have the same one
+pub library-same_items : (texts others : List (List ℕ)) (output : List ℕ) → HaveSameItemsIn texts others
+    → IsLibraryOfAll texts output → IsLibraryOfAll others output
+library-same_items texts others output same is =
+    let theirs = library-exists others same.other_items same.others_have in
+    subst (IsLibraryOfAll others) (sym (library-of_set texts others output theirs.0 same is theirs.1)) theirs.1
+
 itself : (items : List Item) → HaveSameItems items items
 itself items = record { in_others = λ item c. c; in_items = λ item c. c }
 
@@ -104,28 +120,42 @@ library_of-once texts output other one two =
       same = itself one.items;
     }) one two
 
--- a library that is written is read as its items
-written-read : (texts : List (List ℕ)) (output : List ℕ) (is : IsLibraryOfAll texts output) → IsLibraryOf output is.best
+-- a library that is written is a text, which is read as its items
+pub written-read : (texts : List (List ℕ)) (output : List ℕ) (is : IsLibraryOfAll texts output) → IsLibraryOf output is.best
 written-read texts output is =
     subst (λ text. IsLibraryOf text is.best) (sym is.output_is)
     (library-back is.best (whole-best is.items is.best (have-whole texts is.items is.read) is.are_best))
 
+-- items that stand for those of texts have the library of these
+pub library-stand : (texts others : List (List ℕ)) (items news : List Item) (output : List ℕ) → HaveItems texts items
+    → HaveItems others news → StandFor news items → IsLibraryOfAll others output → IsLibraryOfAll texts output
+library-stand texts others items news output have read stand is = record {
+  items = items;
+  read = have;
+  best = is.best;
+  are_best = stand-best items news is.best stand
+      (subst (λ xs. AreBest xs is.best) (have-once others is.items news is.read read) is.are_best);
+  output_is = is.output_is;
+}
+
 pub libraries-join : (texts others : List (List ℕ)) (output other all : List ℕ) → IsLibraryOfAll texts output
     → IsLibraryOfAll others other → IsLibraryOfAll (output ∷ other ∷ []) all → IsLibraryOfAll (texts ++ others) all
-libraries-join texts others output other all one two both = record {
-  items = one.items ++ two.items;
-  read = have-append texts others one.items two.items one.read two.read;
-  best = both.best;
-  are_best = AreBest-append one.items two.items one.best two.best both.best one.are_best two.are_best
-      (subst (λ xs. AreBest xs both.best) (read both.items both.read) both.are_best);
-  output_is = both.output_is;
-}
-  where
-    read : (items : List Item) → HaveItems (output ∷ other ∷ []) items → items ≡ one.best ++ two.best
-    read items (first, rest, all, is, (second, none, more, also, e)) =
-        all ∙ ap₂ (λ xs ys. xs ++ ys) (library-once output first one.best is (written-read texts output one))
-        (more ∙ (ap₂ (λ xs ys. xs ++ ys) (library-once other second two.best also (written-read others other two)) e
-        ∙ append-nil two.best))
+libraries-join texts others output other all one two =
+    library-stand (texts ++ others) (output ∷ other ∷ []) (one.items ++ two.items) (one.best ++ two.best) all
+    (have-append texts others one.items two.items one.read two.read) (
+      one.best,
+      two.best,
+      refl,
+      written-read texts output one,
+      (
+        two.best,
+        [],
+        sym (append-nil two.best),
+        written-read others other two,
+        refl,
+      ),
+    ) (stand-append one.items two.items one.best two.best (best-stand one.items one.best one.are_best)
+    (best-stand two.items two.best two.are_best))
 
 pub library-own : (texts : List (List ℕ)) (output : List ℕ) → IsLibraryOfAll texts output
     → IsLibraryOfAll (output ∷ []) output

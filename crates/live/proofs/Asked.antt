@@ -3,7 +3,7 @@ use Rattle.std.proofs.Common.{◌≡◌, ◌≢◌, ℕ, List, [], ◌∷◌, Op
 use Rattle.std.specs.List.{AllByRecursion}
 use Rattle.board_ends.specs.Ends.{SinkEnd}
 use Rattle.intake.specs.Answering.{AreAnswered, WereAnswered, WereAnsweredInPart}
-use Rattle.live.specs.Asking.{memory_text, AreTold, HasTalked, HasTalkedInPart}
+use Rattle.live.specs.Asking.{memory_text, AreThoseAnswered, AreTold, HasTalked, HasTalkedInPart}
 use Rattle.live.specs.Living.{Living}
 use Rattle.live.specs.Standing.{Held, TalkStandsFor}
 use Rattle.live.specs.Talks.{Answers, AnswersAll}
@@ -52,3 +52,30 @@ all-answered first last (line ∷ lines) (text ∷ texts) none (middle, is, rest
 pub told-answered : (lines texts : List (List ℕ)) → AreTold lines texts
     → AllByRecursion (λ text. text ≢ memory_text) texts → (after : Option Living) × AnswersAll None lines texts after
 told-answered lines texts told none = (told.0, all-answered None told.0 lines texts none told.1)
+
+-- ---- without the lines for which memory was wanting
+abbrev Answered : Option Living → List (List ℕ) → List (List ℕ) → Option Living → Type 0
+Answered first lines texts last = (left answers : List (List ℕ)) × AreThoseAnswered lines texts left answers
+    × AnswersAll first left answers last
+
+those-answered : (first last : Option Living) (lines texts : List (List ℕ))
+    → AreAnswered Answers memory_text first lines texts last → Answered first lines texts last
+those-answered first last [] [] are = ([], [], (refl, refl), (refl, are))
+those-answered first last [] (text ∷ texts) are = absurd are
+those-answered first last (line ∷ lines) [] are = absurd are
+those-answered first last (line ∷ lines) (text ∷ texts) (next, is, rest) = elim is [
+  | inl answers ↦
+      let more = those-answered next last lines texts rest in
+      (line ∷ more.0, text ∷ more.1, inr (more.0, more.1, refl, refl, more.2), (next, answers, more.3))
+  | inr lost ↦
+      let more =
+      those-answered first last lines texts (subst (λ (x : Option Living). AreAnswered Answers memory_text x lines texts
+      last) lost.1 rest) in
+      (more.0, more.1, inl (lost.0, more.2), more.3)
+]
+
+pub told-those-answered : (lines texts : List (List ℕ)) → AreTold lines texts
+    → (left answers : List (List ℕ)) × (after : Option Living)
+    × AreThoseAnswered lines texts left answers × AnswersAll None left answers after
+told-those-answered lines texts told =
+    let those = those-answered None told.0 lines texts told.1 in (those.0, those.1, told.0, those.2, those.3)

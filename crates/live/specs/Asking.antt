@@ -1,6 +1,6 @@
 -- A whole talk: each line of an input is answered, as long as there is memory for it. This
 -- project's own.
-use Rattle.std.specs.Prelude.{◌≡◌, ℕ, ◌≤◌, List, ◌∷◌, [], ◌++◌, length, take, codes, Option, None}
+use Rattle.std.specs.Prelude.{◌≡◌, ◌⊎◌, ℕ, ◌≤◌, List, ◌∷◌, [], ◌++◌, length, take, codes, Option, None}
 use Rattle.board_ends.specs.Ends.{SinkEnd, Took}
 use Rattle.intake.specs.Answering.{AreAnswered, output_line, output_of}
 use Rattle.live.specs.Living.{Living}
@@ -14,6 +14,18 @@ memory_text = codes "{\"memory\":true}"
 abbrev pub AreTold : List (List ℕ) → List (List ℕ) → Type 0
 AreTold lines texts =
     (after : Option Living) × AreAnswered Answers memory_text None lines texts after
+
+-- These are the lines and their answers but for some, each of which was answered so that memory was
+-- wanting.
+abbrev pub AreThoseAnswered : List (List ℕ) → List (List ℕ) → List (List ℕ) → List (List ℕ)
+    → Type 0
+AreThoseAnswered [] [] left answers = (left ≡ []) × (answers ≡ [])
+AreThoseAnswered [] (text ∷ texts) left answers = ⊥
+AreThoseAnswered (line ∷ lines) [] left answers = ⊥
+AreThoseAnswered (line ∷ lines) (text ∷ texts) left answers =
+    ((text ≡ memory_text) × AreThoseAnswered lines texts left answers)
+    ⊎ ((others behind : List (List ℕ)) × (left ≡ line ∷ others) × (answers ≡ text ∷ behind)
+    × AreThoseAnswered lines texts others behind)
 
 -- A sink took the answers to the lines, each with a line feed behind it.
 pub record HasTalked (old new : SinkEnd) (lines : List (List ℕ)) : Type 0 where

@@ -14,8 +14,8 @@ use Rattle.session_text.specs.declared.lines.Opening.{Opening}
 use Rattle.live.specs.Living.{Living, Reply, IsReply, fault_text, opened_as, opened_text, unchanged}
 
 -- ---- a line of bytes
--- The line is no JSON value with white space around it, for this first fault. Its line feed isn't
--- part of it.
+-- The bytes of a line, without its line feed, are no JSON value with white space around it, for this
+-- first fault.
 abbrev pub IsLineFault : List ℕ → JsonFault → Type 0
 IsLineFault bytes fault =
     IsFirstFault bytes 0 fault ⊎ ((at : ℕ) × (fault ≡ Syntax at) × HasMore bytes at)

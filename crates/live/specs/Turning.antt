@@ -1,11 +1,12 @@
--- What lines do to a replica: changes and undos that are done, and lines that are no event. This
+-- What lines do to a replica: changes, undos and redos that are done, and lines that are no event. This
 -- project's own.
 use Rattle.std.specs.Prelude.{◌≡◌, ◌≢◌, ◌⊎◌, ℕ, zero, suc, List, [], ◌∷◌, Some, Result, Ok}
 use Rattle.board_commands.specs.declared.command.Capture.TheVariants.{Now}
 use Rattle.board_commands.specs.declared.command.Command.{Command}
+use Rattle.history.specs.declared.planned.Direction.{Direction}
 use Rattle.history.specs.declared.planned.Direction.TheVariants as directions
 use Rattle.undoing.specs.Steps.{Turn}
-use Rattle.replica.specs.State.{undo_on}
+use Rattle.replica.specs.State.{turn_on}
 use Rattle.session_text.specs.Lines.{LineText}
 use Rattle.session_text.specs.declared.fault.TextFault.{TextFault}
 use Rattle.session_text.specs.declared.lines.Line.{Line}
@@ -23,13 +24,24 @@ pub record IsChangeLine (l : Living) (bytes : List ℕ) (next : Living) : Type 0
   pub gives : given_of (change_on command Now time (nonce_of l) l.seat.state).outcome ≢ []
   pub after : next ≡ (of_change command Now time l).after
 
--- The line is an undo that finds an entry and isn't refused, and leads there.
-pub record IsUndoLine (l : Living) (bytes : List ℕ) (next : Living) : Type 0 where
+-- The line is an undo, or a redo, that finds an entry and isn't refused, and leads there.
+abbrev pub turn_line : Direction → ℕ → Line
+turn_line directions.Undo time = lines.Undo time
+turn_line directions.Redo time = lines.Redo time
+
+pub record IsTurnLine (direction : Direction) (l : Living) (bytes : List ℕ) (next : Living) :
+    Type 0 where
   pub time : ℕ
-  pub reads : LineReads LineText bytes (Ok (lines.Undo time))
+  pub reads : LineReads LineText bytes (Ok (turn_line direction time))
   pub turn : Turn
-  pub found : undo_on time (nonce_of l) l.seat.state ≡ Some (Ok turn)
-  pub after : next ≡ (of_turn directions.Undo time l).after
+  pub found : turn_on direction time (nonce_of l) l.seat.state ≡ Some (Ok turn)
+  pub after : next ≡ (of_turn direction time l).after
+
+abbrev pub IsUndoLine : Living → List ℕ → Living → Type 0
+IsUndoLine = IsTurnLine directions.Undo
+
+abbrev pub IsRedoLine : Living → List ℕ → Living → Type 0
+IsRedoLine = IsTurnLine directions.Redo
 
 -- The line is no event: it asks for something, or has a fault.
 pub record IsNoEvent (bytes : List ℕ) : Type 0 where

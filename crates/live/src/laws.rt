@@ -1,6 +1,6 @@
 //! Laws on living replicas, for all of them. They do nothing when they run.
 
-ghost use Rattle.std.specs.Prelude.{◌≡◌, ◌≢◌, ◌≤◌, ◌++◌, ℕ, List, Option, None, Some, length};
+ghost use Rattle.std.specs.Prelude.{◌≡◌, ◌≢◌, ◌≤◌, ◌+◌, ◌++◌, ℕ, List, Option, None, Some, length};
 ghost use Rattle.std.specs.List.{AllByRecursion};
 ghost use Rattle.elem.specs.Said.{AreElements};
 ghost use Rattle.elem_store.specs.Updates.{AreStored, HaveSameUpdates};
@@ -9,11 +9,11 @@ ghost use Rattle.scene_file.specs.Scenes.{scene_text};
 ghost use Rattle.replica.specs.Back.{HasNothingPending, IsAs};
 ghost use Rattle.replica.specs.Sound.{IsSoundState};
 ghost use Rattle.session.specs.Reports.{shown_at};
-ghost use Rattle.live.specs.Asking.{AreTold, memory_text};
+ghost use Rattle.live.specs.Asking.{AreThoseAnswered, AreTold, memory_text};
 ghost use Rattle.live.specs.Living.{Living};
 ghost use Rattle.live.specs.Sessions.{IsInSession, most_lines};
 ghost use Rattle.live.specs.Talks.{Answers, AnswersAll};
-ghost use Rattle.live.specs.Turning.{AreLinesOf, IsChangeLine, IsUndoLine};
+ghost use Rattle.live.specs.Turning.{AreLinesOf, IsChangeLine, IsRedoLine, IsUndoLine};
 
 /// A line has one answer at most, and leads to one replica; and so have lines one after the other.
 pub fn answers_are_unique()
@@ -33,12 +33,15 @@ pub fn answers_exist()
     room_msg::laws::reading_exists();
 }
 
-/// Lines of a whole talk of whose answers none tells of wanting memory are answered as the
-/// definition says.
+/// Lines of a whole talk are answered as the definition says, if no answer tells that allocation
+/// failed. If some do, all other lines are answered so, as if these had not been asked.
 pub fn told_lines_are_answered()
-    ensures { (lines texts : List (List ℕ)) → AreTold lines texts
+    ensures all { (lines texts : List (List ℕ)) → AreTold lines texts
         → AllByRecursion (λ text. text ≢ memory_text) texts
         → (after : Option Living) × AnswersAll None lines texts after }
+    ensures others { (lines texts : List (List ℕ)) → AreTold lines texts
+        → (left answers : List (List ℕ)) × (after : Option Living)
+        × AreThoseAnswered lines texts left answers × AnswersAll None left answers after }
 {}
 
 /// Whatever lines there were, a replica stores the best of the updates that it took, for each id,
@@ -85,6 +88,21 @@ pub fn undo_brings_back()
 {
     room_msg::laws::read_messages_are_whole();
     session_laws::laws::undo_brings_back();
+}
+
+/// A replica on which nothing is pending makes changes, and then further ones; once all are undone,
+/// and as many redos are done as there were of the first, it is as it was after these, whatever is
+/// asked meanwhile, if there are not too many lines.
+pub fn redo_repeats()
+    ensures { (before texts again others undos redos : List (List ℕ)) (l m o u k : Living) (r n : ℕ)
+        → AnswersAll None before texts (Some l) → HasNothingPending l.seat.state
+        → AreLinesOf IsChangeLine l again r m → AreLinesOf IsChangeLine m others n o
+        → AreLinesOf IsUndoLine o undos (r + n) u → AreLinesOf IsRedoLine u redos r k
+        → length (before ++ (again ++ others ++ undos ++ redos)) ≤ most_lines
+        → IsAs m.seat.state k.seat.state }
+{
+    room_msg::laws::read_messages_are_whole();
+    session_laws::laws::redo_repeats();
 }
 
 /// Lines are events of a session, whose replica with that number comes to where they lead.

@@ -15,19 +15,19 @@ use Rattle.room_core.specs.declared.limits.ServeEnd.{ServeEnd}
 use Rattle.room_core.specs.declared.limits.ServeEnd.TheVariants.{AllClosed, Idle as IdleEnd, LinkFault, LinksFull, EventsFull, Memory}
 use Rattle.room_core.proofs.MemberLaws.{hearing-once}
 
-abbrev link_of : Try → ℕ
+abbrev pub link_of : Try → ℕ
 link_of try = try.link
 
-abbrev links_of : List (ℕ × List ℕ) → List ℕ
+abbrev pub links_of : List (ℕ × List ℕ) → List ℕ
 links_of texts = map (λ (text : ℕ × List ℕ). text.0) texts
 
 -- the links of the texts that were tried
-tried-links : (tries : List Try) → map link_of tries ≡ links_of (texts_tried tries)
+pub tried-links : (tries : List Try) → map link_of tries ≡ links_of (texts_tried tries)
 tried-links [] = refl
 tried-links (try ∷ tries) = ap (λ links. try.link ∷ links) (tried-links tries)
 
 -- which links a room sends texts to rests on its joined links alone
-same-links : (a b : RoomState) (happening : Happening) → a.joined ≡ b.joined
+pub same-links : (a b : RoomState) (happening : Happening) → a.joined ≡ b.joined
     → links_of (texts_of a happening) ≡ links_of (texts_of b happening)
 same-links a b (Joined link) same = refl
 same-links a b (Heard link (Ok message)) same =
@@ -69,7 +69,7 @@ one-sent t ts is = rw is refl
 one-gone : (t : Try) (ts : List Try) → t.is_sent ≡ false → links_gone (t ∷ ts) ≡ t.link ∷ links_gone ts
 one-gone t ts is = rw is refl
 
-lost-alike : (n : ℕ) (ts us r s : List Try) → map link_of ts ≡ map link_of us
+pub lost-alike : (n : ℕ) (ts us r s : List Try) → map link_of ts ≡ map link_of us
     → texts_lost n (ts ++ r) ≡ texts_lost n (us ++ s) → LostAlike ts us r s
 lost-alike n [] [] r s links lost = record { gone = refl; count = n; rest = lost }
 lost-alike n [] (u ∷ us) r s links lost = absurd (nil-cons _ _ links)
@@ -111,7 +111,7 @@ pub record Alike (a b : Serving) : Type 0 where
   pub idles : a.idles ≡ b.idles
   pub joined : a.room.joined ≡ b.room.joined
 
-same-end : (limits : RoomLimits) (a b : Serving) → Alike a b → end_of limits a ≡ end_of limits b
+pub same-end : (limits : RoomLimits) (a b : Serving) → Alike a b → end_of limits a ≡ end_of limits b
 same-end limits a b alike = rw (alike.opened, alike.stepped, alike.idles, alike.joined) refl
 
 -- a round of the same event, of whose texts the same were lost, leaves them so

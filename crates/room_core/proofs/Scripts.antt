@@ -24,7 +24,7 @@ use Rattle.room_core.proofs.Served.{below_limits, fewer, left_of, never_fault, n
 use Rattle.room_core.proofs.Traces.{round-rises}
 
 -- ---- what is stored once updates were taken
-taken-exists : (old taken : List ElementValue) → are_rising (ids_of old) ≡ true → (new : List ElementValue)
+pub taken-exists : (old taken : List ElementValue) → are_rising (ids_of old) ≡ true → (new : List ElementValue)
     × HaveTaken old taken new
 taken-exists old taken rises =
     let all = stored-exist (old ++ taken) in
@@ -39,20 +39,20 @@ taken-exists old taken rises =
     )
 
 -- ---- texts that are tried, some of which are lost by choice
-abbrev tries-by : (ℕ → Bool) → ℕ → List (ℕ × List ℕ) → List Try
+abbrev pub tries-by : (ℕ → Bool) → ℕ → List (ℕ × List ℕ) → List Try
 tries-by is_lost n [] = []
 tries-by is_lost n (text ∷ texts) =
     record { link = text.0; text = text.1; is_sent = not (is_lost n) } ∷ tries-by is_lost (n + 1) texts
 
-tried-by : (is_lost : ℕ → Bool) (n : ℕ) (texts : List (ℕ × List ℕ)) → texts_tried (tries-by is_lost n texts) ≡ texts
+pub tried-by : (is_lost : ℕ → Bool) (n : ℕ) (texts : List (ℕ × List ℕ)) → texts_tried (tries-by is_lost n texts) ≡ texts
 tried-by is_lost n [] = refl
 tried-by is_lost n (text ∷ texts) = ap (λ (more : List (ℕ × List ℕ)). text ∷ more) (tried-by is_lost (n + 1) texts)
 
-lost-by : (is_lost : ℕ → Bool) (n : ℕ) (texts : List (ℕ × List ℕ)) → AreLostBy is_lost n (tries-by is_lost n texts)
+pub lost-by : (is_lost : ℕ → Bool) (n : ℕ) (texts : List (ℕ × List ℕ)) → AreLostBy is_lost n (tries-by is_lost n texts)
 lost-by is_lost n [] = tt
 lost-by is_lost n (text ∷ texts) = (refl, lost-by is_lost (n + 1) texts)
 
-lost-append : (is_lost : ℕ → Bool) (n : ℕ) (ts us : List Try) → AreLostBy is_lost n ts
+pub lost-append : (is_lost : ℕ → Bool) (n : ℕ) (ts us : List Try) → AreLostBy is_lost n ts
     → AreLostBy is_lost (n + length ts) us → AreLostBy is_lost n (ts ++ us)
 lost-append is_lost n [] us first second =
     let same : n + 0 ≡ n = omega arith in subst (λ m. AreLostBy is_lost m us) same second
@@ -61,7 +61,7 @@ lost-append is_lost n (t ∷ ts) us first second =
     (first.0, lost-append is_lost (n + 1) ts us first.1 (subst (λ m. AreLostBy is_lost m us) same second))
 
 -- ---- an event that opens one link too many
-full-event : (opened links : ℕ) (event : LinkEvent) → opened ≤ links → links < opened + opening_of event
+pub full-event : (opened links : ℕ) (event : LinkEvent) → opened ≤ links → links < opened + opening_of event
     → (opened ≡ links) × ((link : ℕ) × (event ≡ Opened link))
 full-event opened links (Opened link) within over = (omega arith, (link, refl))
 full-event opened links (Text link bytes) within over = absurd (omega arith)
@@ -134,7 +134,7 @@ module _ (reads : (bytes : List ℕ) → (answer : Result Message MsgFault) × I
   text-heard link bytes true = let read = reads bytes in (Heard link read.0, (read.0, read.1, refl))
   text-heard link bytes false = (Nothing, refl)
 
-  heard-exists : (joined : List ℕ) (event : LinkEvent) → (happening : Happening) × IsHeardAs joined event happening
+  pub heard-exists : (joined : List ℕ) (event : LinkEvent) → (happening : Happening) × IsHeardAs joined event happening
   heard-exists joined (Opened link) = (Joined link, refl)
   heard-exists joined (Text link bytes) = text-heard link bytes (is_among joined link)
   heard-exists joined (Closed link) = (Left (link ∷ []), refl)

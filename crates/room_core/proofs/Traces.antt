@@ -18,15 +18,15 @@ use Rattle.room_core.proofs.Closing.{events_of, tries_of, head-same, tail-same, 
 use Rattle.room_core.proofs.MemberLaws.{hearing-once}
 
 -- ---- texts that were tried, of which the same were lost
-record TriedAlike (ts us r s : List Try) : Type 0 where
-  tries : ts ≡ us
-  count : ℕ
-  rest : texts_lost count r ≡ texts_lost count s
+pub record TriedAlike (ts us r s : List Try) : Type 0 where
+  pub tries : ts ≡ us
+  pub count : ℕ
+  pub rest : texts_lost count r ≡ texts_lost count s
 
 try-same : (t u : Try) → t.link ≡ u.link → t.text ≡ u.text → t.is_sent ≡ u.is_sent → t ≡ u
 try-same t u link text is_sent = λ i. record { link = link i; text = text i; is_sent = is_sent i }
 
-tried-alike : (n : ℕ) (ts us r s : List Try) → texts_tried ts ≡ texts_tried us
+pub tried-alike : (n : ℕ) (ts us r s : List Try) → texts_tried ts ≡ texts_tried us
     → texts_lost n (ts ++ r) ≡ texts_lost n (us ++ s) → TriedAlike ts us r s
 tried-alike n [] [] r s texts lost = record { tries = refl; count = n; rest = lost }
 tried-alike n [] (u ∷ us) r s texts lost = absurd (nil-cons _ _ texts)
@@ -71,7 +71,7 @@ tried-alike n (t ∷ ts) (u ∷ us) r s texts lost =
 room-same : (a b : RoomState) → a.elements ≡ b.elements → a.joined ≡ b.joined → a ≡ b
 room-same a b elements joined = λ i. record { elements = elements i; joined = joined i }
 
-after-once : (room a b : RoomState) (happening : Happening) → are_rising (ids_of room.elements) ≡ true
+pub after-once : (room a b : RoomState) (happening : Happening) → are_rising (ids_of room.elements) ≡ true
     → IsRoomAfter room happening a → IsRoomAfter room happening b → a ≡ b
 after-once room a b happening rises one two =
     let own = AreStored-itself room.elements rises in
@@ -83,16 +83,16 @@ pub after-rises : (room new : RoomState) (happening : Happening) → are_rising 
 after-rises room new happening rises after =
     (after.elements room.elements (AreStored-itself room.elements rises)).ordered
 
-round-same : (p q : Round) → p.event ≡ q.event → p.happening ≡ q.happening → p.stepped ≡ q.stepped → p.tries ≡ q.tries
+pub round-same : (p q : Round) → p.event ≡ q.event → p.happening ≡ q.happening → p.stepped ≡ q.stepped → p.tries ≡ q.tries
     → p.after ≡ q.after → p ≡ q
 round-same p q event happening stepped tries after =
     λ i. record { event = event i; happening = happening i; stepped = stepped i; tries = tries i; after = after i }
 
 -- a round of one event, of whose texts the same were lost, is one
-record RoundAlike (p q : Round) (r s : List Try) : Type 0 where
-  round : p ≡ q
-  count : ℕ
-  rest : texts_lost count r ≡ texts_lost count s
+pub record RoundAlike (p q : Round) (r s : List Try) : Type 0 where
+  pub round : p ≡ q
+  pub count : ℕ
+  pub rest : texts_lost count r ≡ texts_lost count s
 
 round-once : (room : RoomState) (p q : Round) (r s : List Try) (n : ℕ) → are_rising (ids_of room.elements) ≡ true
     → IsRound room p → IsRound room q → p.event ≡ q.event

@@ -24,6 +24,12 @@ front-none t left mid none e =
     (and_parts (list_all is_within_line left) (list_all is_within_line mid)
     (sym (list_all-append is_within_line left mid) ∙ (ap (list_all is_within_line) (sym e) ∙ none))).0
 
+-- a first part of a record that isn't whole has no line
+pub unended : (t left lost : List ℕ) → NoFeed t → t ++ 10 ∷ [] ≡ left ++ lost → length left ≤ length t
+    → lines_of left ≡ []
+unended t left lost none e short =
+    let r = split left lost t (10 ∷ []) (sym e) short in stretch-lines [] left (front-none t left r.0 none r.1)
+
 -- ---- what is whole of a first part
 pub record IsCut (texts : List (List ℕ)) (left : List ℕ) : Type 0 where
   pub count : ℕ

@@ -28,7 +28,7 @@ abbrev chosen : Bool → Bool → Bool → Option ServeEnd
 chosen closed full idle =
     cond closed (Some serve.AllClosed) (cond full (Some serve.EventsFull) (cond idle (Some serve.Idle) None))
 
-abbrev IsCounted : ServeEnd → Type 0
+abbrev pub IsCounted : ServeEnd → Type 0
 IsCounted serve.AllClosed = Unit {0}
 IsCounted serve.Idle = Unit {0}
 IsCounted serve.EventsFull = Unit {0}
@@ -44,6 +44,11 @@ by_counts true full idle end is = subst IsCounted (counted_same serve.AllClosed 
 by_counts false true idle end is = subst IsCounted (counted_same serve.EventsFull end is) tt
 by_counts false false true end is = subst IsCounted (counted_same serve.Idle end is) tt
 by_counts false false false end is = absurd cc
+
+pub counted : (limits : RoomLimits) (now : Serving) (end : ServeEnd) → end_of limits now ≡ Some end → IsCounted end
+counted limits now end is =
+    by_counts (nat_lt 0 now.opened && is_none_joined now.room.joined) (nat_le limits.events now.stepped)
+    (nat_le limits.idle now.idles) end is
 
 -- ---- an account without rounds
 module _ (limits : RoomLimits) (now : Serving) (running : end_of limits now ≡ None) (count : ℕ) (a b : LinksEnd)
@@ -103,7 +108,7 @@ module _ (limits : RoomLimits) (now : Serving) (running : end_of limits now ≡ 
   }
 
 -- what ends a room that no event is stepped in any more
-ends_here : (limits : RoomLimits) (now : Serving) (count : ℕ) (end : ServeEnd) → IsCounted end
+pub ends_here : (limits : RoomLimits) (now : Serving) (count : ℕ) (end : ServeEnd) → IsCounted end
     → end_of limits now ≡ Some end → EndsKept limits now count (untouched None) now.room (keep_end end)
 ends_here limits now count serve.AllClosed some is = (ap (option_map keep_end) is, refl, refl)
 ends_here limits now count serve.Idle some is = (ap (option_map keep_end) is, refl, refl)
@@ -119,8 +124,7 @@ kept-here limits now count a ja end is synced = record {
   account = record { rounds = []; last = untouched None };
   is = record {
     are_rounds = tt;
-    ended = ends_here limits now count end (by_counts (nat_lt 0 now.opened && is_none_joined now.room.joined)
-        (nat_le limits.events now.stepped) (nat_le limits.idle now.idles) end is) is;
+    ended = ends_here limits now count end (counted limits now end is) is;
   };
   told = tells-nothing a a refl refl refl;
   gained = gained-all [] ja ja (took-none ja);

@@ -1,6 +1,8 @@
 -- What is recovered of what a stop leaves of a durable room's journal.
-use Rattle.std.proofs.Common.{◌≡◌, ℕ, zero, suc, ◌+◌, ◌≤◌, Bool, true, false, List, [], ◌∷◌, ◌++◌, length, map, take, Result, Ok, Err, All, ◌⊎◌, inl, inr, refl, sym, ap, subst, ◌∙◌, append-nil, append_assoc, arith}
+use Rattle.std.proofs.Common.{◌≡◌, ℕ, nat_le, zero, suc, ◌+◌, ◌<◌, ◌≤◌, Bool, true, false, List, [], ◌∷◌, ◌++◌, length, map, take, Result, Ok, Err, All, ◌⊎◌, inl, inr, refl, sym, ap, subst, ◌∙◌, append-nil, append_assoc, length-append, arith}
 use Rattle.std.specs.Prelude.{MatchBool}
+use Rattle.std.proofs.lemmas.Bool.{cases_Bool}
+use Rattle.std.proofs.lemmas.Bool.Decides.{nat_tests}
 use Rattle.std.proofs.lemmas.List.Elements.{All-append, All-cons, All-nil}
 use Rattle.elem.specs.ElementValue.{ElementValue}
 use Rattle.elem_read.specs.Reading.{IsWholeElement}
@@ -16,16 +18,21 @@ use Rattle.room_core.specs.Serving.{Serving, Round, serving_after, serving_at}
 use Rattle.room_core.specs.Told.{Try}
 use Rattle.room_core.specs.declared.limits.RoomLimits.{RoomLimits}
 use Rattle.scene_file.specs.Heads.{Heading}
+use Rattle.scene_file.specs.Scenes.{state_text}
+use Rattle.intake.specs.Lines.{lines_of}
 use Rattle.room_disk.specs.Keeping.{Account, Last, AreKeptRounds, EndsKept, HasGained, IsAccount, IsCutKept, IsLeft, IsStopAnswer, count_after, count_at, messages_heard, messages_in, messages_of, messages_told, told_last}
 use Rattle.room_disk.specs.Records.{bytes_of, opening_record, records_of, update_record}
-use Rattle.room_disk.specs.Recovering.{Recovered, IsRecoveredAs, empty_head}
+use Rattle.room_disk.specs.Recovering.{HasNoLine, Recovered, IsRecoveredAs, empty_head}
 use Rattle.room_disk.specs.Stops.{HaveRecords, IsAnswerAfter, IsAnswerTo, IsOpening}
 use Rattle.room_disk.specs.declared.fault.KeepFault.{KeepFault}
 use Rattle.room_disk.specs.declared.keep_end.KeepEnd.{KeepEnd}
 use Rattle.room_disk.specs.declared.keep_end.KeepEnd.TheVariants.{AllClosed, Idle as IdleEnd, LinkFault, LinksFull, EventsFull, JournalFault, Memory}
 use Rattle.room_disk.specs.inner.KeptSteps.{IsSafeBy, message_bytes}
+use Rattle.room_disk.proofs.Cuts.{unended}
 use Rattle.room_disk.proofs.Gains.{left-long, left-of}
+use Rattle.room_disk.proofs.StopLaws.{nothing}
 use Rattle.room_disk.proofs.WholeLaws.{AreWholeRead}
+use Rattle.room_disk.proofs.Written.{state-none}
 
 -- ---- messages are whole
 abbrev pub AreWholeMessages : List (List ElementValue) → Type 0
@@ -99,21 +106,13 @@ AreRecovered = (head : Heading) (stored : List ElementValue) (messages : List (L
     → IsOpening head stored → AreWholeMessages messages → bytes_of (records_of head stored messages) ≡ left ++ lost
     → IsRecoveredAs left answer → IsAnswerAfter head stored messages left answer
 
-some_or_nothing : (head : Heading) (stored : List ElementValue) (answer : Result Recovered KeepFault) (whole : ℕ)
-    → IsAnswerTo head stored [] whole answer
-    → (answer ≡ Ok (record { head = empty_head; elements = [] })) ⊎ IsStopAnswer head stored [] [] answer
-some_or_nothing head stored answer zero is = inl is
-some_or_nothing head stored answer (suc count) is =
-    inr (record { whole = none_whole; count = count; first = is; all = omega arith })
+-- what is recovered of a first part of a first record that isn't whole
+abbrev IsNothing : List ℕ → Result Recovered KeepFault → Type 0
+IsNothing left answer = HasNoLine left × (answer ≡ Ok (record { head = empty_head; elements = [] }))
 
-pub unopened-answer : AreRecovered → (head : Heading) (stored : List ElementValue) → IsOpening head stored
-    → (ja jb : SinkEnd) → HasGained (opening_record head stored ∷ []) ja jb
-    → (left : List ℕ) (answer : Result Recovered KeepFault) → IsLeft ja jb left → IsRecoveredAs left answer
-    → (answer ≡ Ok (record { head = empty_head; elements = [] })) ⊎ IsStopAnswer head stored [] [] answer
-unopened-answer law head stored opening ja jb gained left answer stop is =
-    let part = left-of (opening_record head stored ∷ []) ja jb left gained stop in
-    let after = law head stored [] left part.0 answer opening none_whole part.1 is in
-    some_or_nothing head stored answer after.whole after.is
+no_line : (left : List ℕ) → lines_of left ≡ [] → HasNoLine left
+no_line [] none = inl refl
+no_line (b ∷ left) none = inr (record { some = λ e. cc; unended = none })
 
 -- the messages that were told are the first ones
 pub told_first : (tries : List Try) (messages : List (List ElementValue)) → (others : List (List ElementValue))
@@ -142,6 +141,39 @@ at_least : (head : Heading) (stored : List ElementValue) (messages : List (List 
 at_least head stored messages sound answer told zero is least = absurd (omega (arith, least))
 at_least head stored messages sound answer told (suc count) is least =
     record { whole = sound; count = count; first = is; all = omega (arith, least) }
+
+pub unopened-answer : AreRecovered → (head : Heading) (stored : List ElementValue) → IsOpening head stored
+    → (ja jb : SinkEnd) → HasGained (opening_record head stored ∷ []) ja jb
+    → (left : List ℕ) (answer : Result Recovered KeepFault) → IsLeft ja jb left → IsRecoveredAs left answer
+    → IsNothing left answer ⊎ IsStopAnswer head stored [] [] answer
+unopened-answer law head stored opening ja jb gained left answer stop is =
+    elim (cases_Bool (nat_le (length left) (length (state_text head stored)))) [
+      | inl short ↦ inl (nothing-left (grind (arith, nat_tests)))
+      | inr long ↦ inr (opening-left (grind (arith, nat_tests)))
+    ]
+  where
+    part : (lost : List ℕ) × (bytes_of (opening_record head stored ∷ []) ≡ left ++ lost)
+    part = left-of (opening_record head stored ∷ []) ja jb left gained stop
+
+    nothing-left : length left ≤ length (state_text head stored) → IsNothing left answer
+    nothing-left short =
+        let none = unended (state_text head stored) left part.0 (state-none head stored opening.whole opening.elements)
+        (sym (append-nil (opening_record head stored)) ∙ part.1) short in
+        (no_line left none, nothing (lines_of left) answer none is)
+
+    opening-left : length (state_text head stored) < length left → IsStopAnswer head stored [] [] answer
+    opening-left long =
+        let after = law head stored [] left part.0 answer opening none_whole part.1 is in
+        let least = after.all (suc zero) (record {
+          within = omega arith;
+          long = omega (
+            arith,
+            long,
+            length-append (opening_record head stored) [],
+            length-append (state_text head stored) (10 ∷ []),
+          );
+        }) in
+        at_least head stored [] none_whole answer [] after.whole after.is (omega (arith, least))
 
 module _ (law : AreRecovered) (head : Heading) (stored : List ElementValue) (opening : IsOpening head stored)
     (told others messages : List (List ElementValue)) (parts : messages ≡ told ++ others)

@@ -17,5 +17,8 @@ pub mod KeptTexts
 pub mod KeptRooms
 pub mod ChainLaws
 pub mod KeptRounds
+pub mod KeptClosing
+pub mod KeptTraces
+pub mod KeptScripts
 pub mod LayerLaws
 pub mod CallerLemmas

@@ -72,7 +72,7 @@ stored-of join stored more itself =
     )
 
 -- ---- the answer
-nothing : (lines : List (List ℕ)) (answer : Result Recovered KeepFault) → lines ≡ [] → AreReadAs lines answer
+pub nothing : (lines : List (List ℕ)) (answer : Result Recovered KeepFault) → lines ≡ [] → AreReadAs lines answer
     → answer ≡ Ok (record { head = empty_head; elements = [] })
 nothing lines answer none is =
     kept-answer lines empty_head [] answer (subst (λ ls. AreKept ls empty_head []) (sym none) (refl, refl)) is

@@ -1,6 +1,7 @@
 -- A stretch of a stream up to a line feed, or without one.
-use Rattle.std.proofs.Common.{ℕ, List, [], ◌∷◌, ◌++◌, sym, ap, ◌∙◌, subst}
-use Rattle.intake.specs.Lines.{lines_of}
+use Rattle.std.proofs.Common.{◌≡◌, ℕ, List, [], ◌∷◌, ◌++◌, flat_map, sym, ap, ap₂, ◌∙◌, subst}
+use Rattle.intake.specs.Lines.{AreLines, begun_of, lines_of}
+use Rattle.room_disk.specs.Recovering.{HasNoRecord}
 use Rattle.room_disk.specs.inner.UnderWay.{IsReadTo, StandsIn}
 use Rattle.room_disk.specs.declared.recovery.Recovery.{Recovery}
 use Rattle.intake.proofs.CallerLemmas.{NoFeed, stretch-lines, stretch-begun, ended-lines, ended-begun}
@@ -21,3 +22,14 @@ stands-behind stream begun front old new none taken stands = record {
       ∙ sym (ended-lines stream front none)) (taken (lines_of stream) stands.read);
   begun_is = sym (ended-begun stream front none);
 }
+
+-- ---- bytes without a line
+pub begun-alone : (bytes begun : List ℕ) → begun ≡ begun_of bytes → (begun ≡ [] → ⊥) → lines_of bytes ≡ []
+    → HasNoRecord bytes
+begun-alone bytes begun is some none = record { some = λ e. some (is ∙ ap begun_of e); unended = none }
+
+pub none-begun : (bytes begun : List ℕ) → AreLines bytes (lines_of bytes) (begun_of bytes) → begun ≡ begun_of bytes
+    → begun ≡ [] → HasNoRecord bytes → ⊥
+none-begun bytes begun lines is none has =
+    has.some (lines.parts ∙ ap₂ (λ (ls : List (List ℕ)) (b : List ℕ). flat_map (λ (line : List ℕ). line) ls ++ b)
+    has.unended (sym is ∙ none))

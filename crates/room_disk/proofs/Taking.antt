@@ -86,3 +86,22 @@ take-more lines line old new (Some fault) some was is to =
 pub if-then : {T E : Type 0} (P Q : T → Type 0) (r : Result T E) → ((x : T) → P x → Q x) → IfOk r P → IfOk r Q
 if-then P Q (Ok x) f p = f x p
 if-then P Q (Err e) f p = tt
+
+-- ---- whether there was a line
+nil-none : (before : List (List ℕ)) (line : List ℕ) (after : List (List ℕ)) → [] ≡ before ++ line ∷ after → ⊥
+nil-none [] line after e = cc
+nil-none (first ∷ before) line after e = cc
+
+pub none-read : (lines : List (List ℕ)) (recovery : Recovery) → recovery.fault ≡ None → recovery.lines ≡ 0
+    → IsReadTo lines recovery → lines ≡ []
+none-read lines recovery sound zero to =
+    let kept = rw sound at to in nil_from_length lines (omega (arith, kept.1, zero))
+
+pub some-read : (lines : List (List ℕ)) (recovery : Recovery) → recovery.fault ≡ None → (recovery.lines ≡ 0 → ⊥)
+    → IsReadTo lines recovery → lines ≡ [] → ⊥
+some-read lines recovery sound some to none = let kept = rw sound at to in some (kept.1 ∙ ap length none)
+
+pub fault-read : (lines : List (List ℕ)) (recovery : Recovery) (fault : KeepFault) → recovery.fault ≡ Some fault
+    → IsReadTo lines recovery → lines ≡ [] → ⊥
+fault-read lines recovery (Line number fault) faulty to none =
+    let has = rw faulty at to in nil-none has.before has.line has.after (sym none ∙ has.parts)

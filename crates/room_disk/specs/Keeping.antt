@@ -20,7 +20,7 @@ use Rattle.room_core.specs.declared.limits.ServeEnd.{ServeEnd}
 use Rattle.room_core.specs.declared.limits.ServeEnd.TheVariants as serve
 use Rattle.scene_file.specs.Heads.{Heading}
 use Rattle.room_disk.specs.Records.{bytes_of, opening_record, records_of}
-use Rattle.room_disk.specs.Recovering.{Recovered, IsRecoveredAs, empty_head}
+use Rattle.room_disk.specs.Recovering.{HasNoLine, Recovered, IsRecoveredAs, empty_head}
 use Rattle.room_disk.specs.Stops.{HasFirst}
 use Rattle.room_disk.specs.declared.fault.KeepFault.{KeepFault}
 use Rattle.room_disk.specs.declared.keep_end.KeepEnd.{KeepEnd}
@@ -226,8 +226,8 @@ pub record ListenOnce (port : ℕ) (before after : LinksEnd) (end : KeepEnd) : T
       × Tells before after [] [])
 
 -- A durable room whose first record wasn't made safe: nobody listened, no event was taken and
--- nothing was sent. A stop leaves a first part of that record: nothing is recovered of it, or the
--- opening.
+-- nothing was sent. A stop leaves a first part of that record: the opening is recovered of it, or
+-- no line of it ends and nothing is.
 pub record IsUnopened (head : Heading) (room new : RoomState) (links links_after : LinksEnd)
     (journal journal_after : SinkEnd) (end : KeepEnd) : Type 0 where
   pub cause : (end ≡ JournalFault) ⊎ (end ≡ Memory)
@@ -236,7 +236,7 @@ pub record IsUnopened (head : Heading) (room new : RoomState) (links links_after
   pub gained : HasGained (opening_record head room.elements ∷ []) journal journal_after
   pub stops : (left : List ℕ) (answer : Result Recovered KeepFault)
       → IsLeft journal journal_after left → IsRecoveredAs left answer
-      → (answer ≡ Ok (record { head = empty_head; elements = [] }))
+      → (HasNoLine left × (answer ≡ Ok (record { head = empty_head; elements = [] })))
       ⊎ IsStopAnswer head room.elements [] [] answer
 
 -- A durable room was kept and served from its first record on to its end: the links listened, told

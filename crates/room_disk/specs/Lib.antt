@@ -1,8 +1,10 @@
 pub mod Chains
+pub mod Closing
 pub mod Faults
 pub mod Keeping
 pub mod Records
 pub mod Recovering
 pub mod Resuming
+pub mod Scripts
 pub mod Stops
 pub mod inner

@@ -1,5 +1,5 @@
 -- What the bytes of a journal are read as. This project's own.
-use Rattle.std.specs.Prelude.{◌≡◌, ◌⊎◌, ℕ, ◌+◌, List, [], ◌∷◌, ◌++◌, length, flat_map, None, Result, Ok, Err}
+use Rattle.std.specs.Prelude.{◌≡◌, ◌≢◌, ◌⊎◌, ℕ, ◌+◌, List, [], ◌∷◌, ◌++◌, length, flat_map, None, Result, Ok, Err}
 use Rattle.json_reader.specs.Faults.{IsFirstFault}
 use Rattle.json_reader.specs.declared.fault.JsonFault.TheVariants.{Syntax}
 use Rattle.elem.specs.ElementValue.{ElementValue}
@@ -100,3 +100,12 @@ AreReadAs lines (Err (Line number fault)) = HasFaultyLine lines number fault
 -- What the bytes of a journal are read as: bytes behind the last line count for nothing.
 abbrev pub IsRecoveredAs : List ℕ → Result Recovered KeepFault → Type 0
 IsRecoveredAs bytes answer = AreReadAs (lines_of bytes) answer
+
+-- There are bytes, and no line of them ends: a journal was begun, and no record of it is whole.
+pub record HasNoRecord (bytes : List ℕ) : Type 0 where
+  pub some : bytes ≢ []
+  pub unended : lines_of bytes ≡ []
+
+-- No line of the bytes ends: they are none, or have no record.
+abbrev pub HasNoLine : List ℕ → Type 0
+HasNoLine bytes = (bytes ≡ []) ⊎ HasNoRecord bytes

@@ -1,7 +1,7 @@
 //! Laws on journals and on what a room resumes with, for all of them. They do nothing when they
 //! run.
 
-ghost use Rattle.std.specs.Prelude.{◌≡◌, ℕ, List, [], ◌++◌, flat_map, map, true, All, Contains, Some, None, Result, Ok};
+ghost use Rattle.std.specs.Prelude.{◌≡◌, ◌≢◌, ◌⊎◌, ℕ, Bool, List, [], ◌++◌, flat_map, map, true, All, Contains, Some, None, Result, Ok};
 ghost use Rattle.std.specs.List.{list_all};
 ghost use Rattle.frac_keys.specs.Between.{keys_between};
 ghost use Rattle.frac_keys.specs.Rising.{are_rising, is_key_or_none, rise_between};
@@ -9,6 +9,9 @@ ghost use Rattle.elem.specs.ElementValue.{ElementValue};
 ghost use Rattle.elem.specs.Order.{beats};
 ghost use Rattle.elem_read.specs.Reading.{IsWholeElement};
 ghost use Rattle.elem_store.specs.Updates.{AreStored, ids_of};
+ghost use Rattle.board_ends.specs.Ends.{LinksEnd, SinkEnd};
+ghost use Rattle.board_ends.specs.declared.links.LinkEvent.{LinkEvent};
+ghost use Rattle.room_core.specs.Closing.{TellAll};
 ghost use Rattle.room_core.specs.Members.{AreSteps, member_updates};
 ghost use Rattle.room_core.specs.Rooms.{RoomState, is_among};
 ghost use Rattle.room_core.specs.Serving.{Serving, Round, at_start, serving_at, steps_of};
@@ -18,12 +21,15 @@ ghost use Rattle.view.specs.Shown.{in_scene_order, live_elements};
 ghost use Rattle.scene_file.specs.Heads.{Heading};
 ghost use Rattle.scene_file.specs.Whole.{IsWholeHead, HaveKeys};
 ghost use Rattle.room_disk.specs.Chains.{Run, AreChained, IsKeptIn, kept_in};
-ghost use Rattle.room_disk.specs.Keeping.{AreKeptRounds, messages_of};
+ghost use Rattle.room_disk.specs.Closing.{LeadToKeptClose};
+ghost use Rattle.room_disk.specs.Keeping.{AreKeptRounds, IsKept, messages_of};
 ghost use Rattle.room_disk.specs.Records.{records_of, bytes_of};
 ghost use Rattle.room_disk.specs.Recovering.{Recovered, IsRecoveredAs};
 ghost use Rattle.room_disk.specs.Resuming.{greatest_key, resumed, keyless_count, new_keys, AreFilled, IsAtMost};
+ghost use Rattle.room_disk.specs.Scripts.{HasKeptTrace};
 ghost use Rattle.room_disk.specs.Stops.{IsOpening, IsAnswerAfter};
 ghost use Rattle.room_disk.specs.declared.fault.KeepFault.{KeepFault};
+ghost use Rattle.room_disk.specs.declared.keep_end.KeepEnd.{KeepEnd};
 
 /// What is recovered of bytes is one head and one store, where it is any.
 pub fn recovered_is_unique()
@@ -88,6 +94,42 @@ pub fn kept_room_stores_its_messages()
         → AreStored (updates ++ flat_map (λ (es : List ElementValue). es) (messages_of rounds))
         (serving_at now rounds).room.elements }
 {}
+
+/// Where the links tell rounds of a durable room within the limits, after which a link was opened
+/// and none is joined, that ends the room, unless memory is wanted, or the links or the journal
+/// fail. What rooms store plays no part.
+pub fn closing_ends_a_kept_room()
+    ensures { (limits : RoomLimits) (head : Heading) (port : ℕ) (room other new : RoomState)
+        (before after : LinksEnd) (journal journal_after : SinkEnd) (end : KeepEnd)
+        → room.joined ≡ other.joined → LeadToKeptClose limits (at_start room) before after
+        → IsKept limits head port other new before after journal journal_after end
+        → (end ≡ KeepEnd.AllClosed) ⊎ ((end ≡ KeepEnd.Memory)
+        ⊎ ((end ≡ KeepEnd.LinkFault) ⊎ (end ≡ KeepEnd.JournalFault))) }
+{}
+
+/// A durable room has one trace. If the links reveal everything and the stored ids rise, two accounts
+/// of what they revealed are the same, with the same room at the end and the same end, if neither
+/// ends because allocation fails. What their journals hold plays no part.
+pub fn keeping_is_unique()
+    ensures { (limits : RoomLimits) (head : Heading) (port : ℕ) (room new other : RoomState)
+        (before after : LinksEnd) (journal journal_after second second_after : SinkEnd)
+        (end last : KeepEnd)
+        → are_rising (ids_of room.elements) ≡ true → TellAll before
+        → end ≢ KeepEnd.Memory → last ≢ KeepEnd.Memory
+        → (one : IsKept limits head port room new before after journal journal_after end)
+        (two : IsKept limits head port room other before after second second_after last)
+        → (one.account ≡ two.account) × (new ≡ other) × (end ≡ last) }
+{}
+
+/// Every script of events has a trace of a durable room whose stored ids rise, whichever texts find
+/// their link gone. The room comes to an end by itself, with whole rounds before it.
+pub fn every_script_has_a_kept_trace()
+    ensures { (limits : RoomLimits) (room : RoomState) (script : List LinkEvent) (is_lost : ℕ
+        → Bool)
+        → are_rising (ids_of room.elements) ≡ true → HasKeptTrace limits room script is_lost }
+{
+    room_msg::laws::reading_exists();
+}
 
 /// Over any chain of runs, each resumed from what was recovered of what a stop left of the one
 /// before, nothing is lost that was kept in any of them: each update that was told is stored at the

@@ -16,5 +16,5 @@ mod resuming;
 pub use fault::{KeepFault, LineFault, RecoverFault};
 pub use keep_end::KeepEnd;
 pub use keeping::keep_room;
-pub use recovering::recover;
+pub use recovering::{recover, recover_records};
 pub use resuming::resume;

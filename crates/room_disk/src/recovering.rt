@@ -1,9 +1,9 @@
 //! What a source gives is read as a journal.
 
-ghost use Rattle.std.specs.Prelude.{◌≡◌, ◌≢◌, ℕ, ◌<◌, ◌≤◌, List as Items, ◌++◌, length, take, Ok, Err, IfOk, OnOk, OnErr};
+ghost use Rattle.std.specs.Prelude.{◌≡◌, ◌≢◌, ℕ, ◌<◌, ◌≤◌, List as Items, ◌++◌, length, take, true, false, None, Ok, Err, IfOk, IfSome, OnOk, OnErr};
 ghost use Rattle.board_ends.specs.Counts.{Rose};
 ghost use Rattle.board_ends.specs.Ends.{Gave, IsAtEnd};
-ghost use Rattle.room_disk.specs.Recovering.{Recovered, IsRecoveredAs};
+ghost use Rattle.room_disk.specs.Recovering.{HasNoRecord, Recovered, IsRecoveredAs};
 ghost use Rattle.room_disk.specs.inner.UnderWay.{StandsIn};
 ghost use Rattle.room_disk.specs.declared.fault.KeepFault.{KeepFault};
 ghost use Rattle.room_disk.specs.declared.fault.RecoverFault.{RecoverFault};
@@ -36,16 +36,75 @@ pub fn recover<S: Source>(
         → Rose (S.seen source.old).faults (S.seen source.new).faults }
     ensures counted { (S.seen source.old).faults ≤ (S.seen source.new).faults }
 {
+    let (recovery, _begun) = read_lines(alloc, source)?;
+    recovery.finish()
+}
+
+/// What `recover` gives, but `None` of a journal that has bytes and in which no line ends: it was
+/// begun and has no record, so no room is to go on from it.
+pub fn recover_records<S: Source>(
+    alloc: Global,
+    source: &mut S,
+) -> Result<Option<(Head, Store)>, Stop<RecoverFault>>
+    ensures recovered { IfOk result (λ records. IfSome records (λ found. (bytes : Items ℕ)
+        × Gave (S.seen source.old) (S.seen source.new) bytes × (¬ HasNoRecord bytes)
+        × IsRecoveredAs bytes (Ok (record { head = found.0; elements = found.1.elements })))) }
+    ensures none { result ≡ Ok None → (bytes : Items ℕ)
+        × Gave (S.seen source.old) (S.seen source.new) bytes × HasNoRecord bytes }
+    ensures end { OnOk result (IsAtEnd (S.seen source.new)) }
+    ensures faulty { (fault : KeepFault) → result ≡ Err (Stop.Fault (RecoverFault.Faulty fault))
+        → (bytes : Items ℕ) × Gave (S.seen source.old) (S.seen source.new) bytes
+        × IsAtEnd (S.seen source.new) × IsRecoveredAs bytes (Err fault) }
+    ensures failed { result ≡ Err (Stop.Fault RecoverFault.Failed)
+        → Rose (S.seen source.old).faults (S.seen source.new).faults }
+    ensures counted { (S.seen source.old).faults ≤ (S.seen source.new).faults }
+{
+    let (recovery, begun) = read_lines(alloc, source)?;
+    if has_no_record(&recovery, &begun) {
+        return Ok(None);
+    }
+    Ok(Some(recovery.finish()?))
+}
+
+/// Reads the lines of the journal, up to the source's end; and the bytes that stand behind the
+/// last one.
+fn read_lines<S: Source>(
+    alloc: Global,
+    source: &mut S,
+) -> Result<(Recovery, Vec<u8>), Stop<RecoverFault>>
+    ensures read { IfOk result (λ read. (bytes : Items ℕ)
+        × Gave (S.seen source.old) (S.seen source.new) bytes
+        × StandsIn bytes read.1.items read.0) }
+    ensures end { OnOk result (IsAtEnd (S.seen source.new)) }
+    ensures failed { result ≡ Err (Stop.Fault RecoverFault.Failed)
+        → Rose (S.seen source.old).faults (S.seen source.new).faults }
+    ensures other { (fault : KeepFault) → result ≢ Err (Stop.Fault (RecoverFault.Faulty fault)) }
+    ensures counted { (S.seen source.old).faults ≤ (S.seen source.new).faults }
+{
     let mut recovery = Recovery::new(alloc);
     let mut begun = Vec::new(alloc);
     let mut piece = empty_piece(alloc)?;
     'pieces: for _ in 0..u64::MAX {
         let count = next_piece(alloc, source, &mut recovery, &mut begun, &mut piece)?;
         if count == 0 {
-            return recovery.finish();
+            return Ok((recovery, begun));
         }
     }
     Err(Stop::Memory)
+}
+
+/// Whether bytes were read, and no line of them ended.
+fn has_no_record(recovery: &Recovery, begun: &Vec<u8>) -> bool
+    ensures none { result ≡ true → (bytes : Items ℕ)
+        → StandsIn bytes begun.now.items recovery.now → HasNoRecord bytes }
+    ensures some { result ≡ false → (bytes : Items ℕ)
+        → StandsIn bytes begun.now.items recovery.now → ¬ HasNoRecord bytes }
+{
+    intake::laws::bytes_are_lines();
+    if begun.is_empty() {
+        return false;
+    }
+    recovery.is_new()
 }
 
 /// Reads the next bytes into the piece and takes them, and says how many came.

@@ -1,6 +1,6 @@
 //! A journal that is read line by line.
 
-ghost use Rattle.std.specs.Prelude.{◌≡◌, ◌≢◌, ◌∷◌, [], ◌++◌, ℕ, List as Items, length, Ok, Err, IfOk, OnOk};
+ghost use Rattle.std.specs.Prelude.{◌≡◌, ◌≢◌, ◌∷◌, [], ◌++◌, ℕ, List as Items, length, true, false, Ok, Err, IfOk, OnOk};
 ghost use Rattle.room_disk.specs.Recovering.{Recovered, AreReadAs, AreKept, IsLineFault};
 ghost use Rattle.room_disk.specs.inner.UnderWay.{IsReadTo};
 ghost use Rattle.room_disk.specs.declared.fault.KeepFault.{KeepFault};
@@ -34,6 +34,19 @@ impl Recovery {
             store: Store::new(alloc),
             lines: 0,
             fault: None,
+        }
+    }
+
+    /// Whether no line was read so far.
+    pub(crate) fn is_new(&self) -> bool
+        ensures new { result ≡ true → (lines : Items (Items ℕ)) → IsReadTo lines self.now
+            → lines ≡ [] }
+        ensures old { result ≡ false → (lines : Items (Items ℕ)) → IsReadTo lines self.now
+            → lines ≢ [] }
+    {
+        match self.fault {
+            Some(_) => false,
+            None => self.lines == 0,
         }
     }
 

@@ -1,6 +1,6 @@
 //! A list is taken into a store, but for what is held.
 
-use crate::samples::rectangle;
+use crate::samples::framed;
 use elem::Element;
 use elem_store::Store;
 use json_text::Text;
@@ -12,7 +12,7 @@ use std::test::Fail;
 fn updates(alloc: Global) -> Result<Vec<Element>, Fail> {
     let mut updates = Vec::new(alloc);
     for (id, version) in [("c", 1), ("b", 7), ("a", 2), ("c", 3)] {
-        updates.push(rectangle(alloc, id, (version, 0, 0))?)?;
+        updates.push(framed(alloc, id, (version, "f", false))?)?;
     }
     Ok(updates)
 }

@@ -1,6 +1,5 @@
 //! Elements by their texts.
 
-use board_base::List;
 use elem::Element;
 use elem_read::read_element;
 use json_reader::scan;
@@ -14,27 +13,14 @@ pub(crate) fn element(alloc: Global, text: &str) -> Result<Element, Fail> {
     Ok(read_element(alloc, &value)?.ok_or("an element")?)
 }
 
-/// The rectangle of this id, version, nonce and time.
-pub(crate) fn rectangle(
-    alloc: Global,
-    id: &str,
-    (version, nonce, updated): (u64, u64, u64),
-) -> Result<Element, Fail> {
-    let text = format!(in alloc;
-        "{{\"id\":\"{id}\",\"type\":\"rectangle\",\"version\":{version},\"versionNonce\":{nonce},\"updated\":{updated}}}"
-    )?;
-    element(alloc, text.as_str())
-}
-
-/// The element of this kind, id, version and frame, in which nothing else is told.
+/// The rectangle of this id, version and frame, in which nothing else is told.
 pub(crate) fn framed(
     alloc: Global,
-    kind: &str,
     id: &str,
     (version, frame, deleted): (u64, &str, bool),
 ) -> Result<Element, Fail> {
     let text = format!(in alloc;
-        "{{\"id\":\"{id}\",\"type\":\"{kind}\",\"version\":{version},\"frameId\":\"{frame}\",\"isDeleted\":{deleted}}}"
+        "{{\"id\":\"{id}\",\"type\":\"rectangle\",\"version\":{version},\"frameId\":\"{frame}\",\"isDeleted\":{deleted}}}"
     )?;
     element(alloc, text.as_str())
 }

@@ -2,36 +2,13 @@
 
 ghost use Rattle.std.specs.Prelude.{◌≡◌, IsTrue};
 
-use crate::desk::{Act, told_of};
 use crate::samples::framed;
-use crate::told::push_entry;
+use delta::{Change, Entry};
 use elem::Element;
 use elem_store::Store;
 use snapshot::Snapshot;
 use std::alloc::Global;
 use std::test::Fail;
-
-#[test]
-fn a_planned_capture_is_a_capture(rt: HostRuntime) -> Result<(), Fail> {
-    for capture in [Act::Capture, Act::CapturePlanned] {
-        let acts = [
-            Act::Take("rectangle", "a", 1, "f"),
-            capture,
-            Act::Take("rectangle", "a", 2, "g"),
-            Act::Take("rectangle", "b", 1, "f"),
-            Act::Pending,
-            capture,
-            Act::Pending,
-            capture,
-        ];
-        let told = told_of(rt.alloc(), &acts)?;
-        assert_eq!(rt;
-            told.as_slice(),
-            b"a isDeleted:true>false 1/0; pending a b ; a frameId:\"f\">\"g\" b isDeleted:true>false 2/0; pending ; 2/0; ".as_slice()
-        );
-    }
-    Ok(())
-}
 
 /// Takes an update.
 fn take(store: &mut Store, e: Element) -> Result<(), Fail> {
@@ -41,20 +18,9 @@ fn take(store: &mut Store, e: Element) -> Result<(), Fail> {
     }
 }
 
-/// Carries an update into the snapshot, planned or not, and takes it.
-fn deliver(
-    snapshot: &mut Snapshot,
-    store: &mut Store,
-    e: Element,
-    planned: bool,
-) -> Result<(), Fail> {
-    if planned {
-        let list = [e.try_clone()?];
-        let step = snapshot.plan_carry(store, &list)?;
-        snapshot.put(step);
-    } else {
-        carry(snapshot, store.get(&e.id), &e)?;
-    }
+/// Carries an update into the snapshot, and takes it.
+fn deliver(snapshot: &mut Snapshot, store: &mut Store, e: Element) -> Result<(), Fail> {
+    carry(snapshot, store.get(&e.id), &e)?;
     take(store, e)
 }
 
@@ -73,34 +39,51 @@ fn is_of_one_id(old: &Element, new: &Element) -> bool
     old.id.as_bytes() == new.id.as_bytes()
 }
 
-/// What is captured of an element that is set here and deleted by what is delivered, and of one
-/// that comes with it.
-fn captured(alloc: Global, planned: bool) -> Result<Vec<u8>, Fail> {
-    let (mut store, mut snapshot) = (Store::new(alloc), Snapshot::new(alloc));
-    take(
-        &mut store,
-        framed(alloc, "rectangle", "a", (1, "f", false))?,
-    )?;
-    snapshot.capture(&store)?;
-    take(
-        &mut store,
-        framed(alloc, "rectangle", "a", (2, "g", false))?,
-    )?;
-    for (id, version, frame, deleted) in [("a", 3, "g", true), ("b", 1, "f", false)] {
-        let e = framed(alloc, "rectangle", id, (version, frame, deleted))?;
-        deliver(&mut snapshot, &mut store, e, planned)?;
+/// Whether an entry has one part, which changes the frame of this element alone.
+fn changes_the_frame_alone(entry: &Entry, id: &str) -> bool {
+    let [part] = entry.parts.as_slice() else {
+        return false;
+    };
+    let [change] = part.changes.as_slice() else {
+        return false;
+    };
+    match change {
+        Change::Scalar { name, .. } => {
+            part.id.as_bytes() == id.as_bytes() && name.as_bytes() == b"frameId".as_slice()
+        }
+        _ => false,
     }
-    let entry = snapshot.capture(&store)?;
-    let mut told = Vec::new(alloc);
-    push_entry(&mut told, &entry)?;
-    Ok(told)
+}
+
+/// A store and its snapshot: "a" was captured, and then put into another frame.
+fn framed_anew(alloc: Global) -> Result<(Store, Snapshot), Fail> {
+    let (mut store, mut snapshot) = (Store::new(alloc), Snapshot::new(alloc));
+    take(&mut store, framed(alloc, "a", (1, "f", false))?)?;
+    snapshot.capture(&store)?;
+    take(&mut store, framed(alloc, "a", (2, "g", false))?)?;
+    Ok((store, snapshot))
+}
+
+#[test]
+fn what_is_pending_is_told(rt: HostRuntime) -> Result<(), Fail> {
+    let (store, mut snapshot) = framed_anew(rt.alloc())?;
+    let pending = snapshot.pending(&store)?;
+    assert!(rt; pending.as_slice().len() == 1);
+    assert!(rt; pending.as_slice()[0].as_bytes() == b"a".as_slice());
+    snapshot.capture(&store)?;
+    assert_eq!(rt; snapshot.pending(&store)?.as_slice().len(), 0);
+    Ok(())
 }
 
 #[test]
 fn what_is_carried_is_no_part_of_a_capture(rt: HostRuntime) -> Result<(), Fail> {
-    for planned in [false, true] {
-        let told = captured(rt.alloc(), planned)?;
-        assert_eq!(rt; told.as_slice(), b"a frameId:\"f\">\"g\" ".as_slice());
+    let alloc = rt.alloc();
+    let (mut store, mut snapshot) = framed_anew(alloc)?;
+    for (id, version, frame, deleted) in [("a", 3, "g", true), ("b", 1, "f", false)] {
+        let e = framed(alloc, id, (version, frame, deleted))?;
+        deliver(&mut snapshot, &mut store, e)?;
     }
+    let entry = snapshot.capture(&store)?;
+    assert!(rt; changes_the_frame_alone(&entry, "a"));
     Ok(())
 }

@@ -32,6 +32,7 @@ use Rattle.session_laws.proofs.SoundWorlds.{seat-kept, world-kept}
 stamped-leaves : (pair : Pair) (now new : ElementValue) (time nonce : ℕ) → Leaves pair now new
     → Leaves pair now (stamped time nonce new)
 stamped-leaves pair now new time nonce leaves = record {
+  kind = leaves.kind;
   scalars = λ name e. scalars-same-but-stamp (stamped time nonce new) new refl name ∙ leaves.scalars name e;
   groups = leaves.groups;
   group_items = leaves.group_items;

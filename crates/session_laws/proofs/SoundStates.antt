@@ -33,7 +33,7 @@ use Rattle.replica.specs.Sound.{IsSoundState}
 use Rattle.replica.specs.State.{State, nothing, noted, captured, stored_with, carried_with, outcome_on, after_given, after_outcome, after_change, after_delivery, turn_on, after_turn_of, after_turn}
 use Rattle.replica.proofs.CallerLemmas.{taken-at, taken-else}
 use Rattle.board_commands.specs.Written.{IsWrittenCommand}
-use Rattle.given_elements.proofs.CallerLemmas.{board-given}
+use Rattle.effect_laws.proofs.CallerLemmas.{board-given}
 
 -- something is stored of the id
 abbrev pub IsStoredIn : List ElementValue → List ℕ → Type 0

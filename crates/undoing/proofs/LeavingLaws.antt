@@ -107,6 +107,7 @@ module _ {T : Type 0} (same : T → T → Bool) (exact : (a b : T) → same a b 
 undoes-leaves : (pair : Pair) (now new : ElementValue) → pair.after.kind ≡ now.kind
     → Undoes pair.before pair.after now new → Leaves pair now new
 undoes-leaves pair now new kind undoes = record {
+  kind = undoes.stamp.kind;
   scalars = λ name e. undoes.scalars name
       ∙ scalar-left (scalar_of pair.before name) (scalar_of pair.after name) (scalar_of now name) (own e);
   groups = λ e. undoes.groups ∙ list-left bytes_eq bytes_eq-true bytes_eq-same pair.before.groups pair.after.groups
@@ -130,6 +131,7 @@ undoes-leaves pair now new kind undoes = record {
 
 itself-leaves : (pair : Pair) (now : ElementValue) → pair.after.kind ≢ now.kind → Leaves pair now now
 itself-leaves pair now apart = record {
+  kind = refl;
   scalars = λ name e. refl;
   groups = λ e. refl;
   group_items = λ e. absurd (apart e);

@@ -21,10 +21,11 @@ ChangesByItems {T} same before after old new =
     (item : T) → is_in same new item
     ≡ (gains same before after item || (is_in same old item && not (gains same after before item)))
 
--- What undoing a pair leaves of an element: each member outside the stamp that is the same before
--- and after, or each one if the element is of another kind; and of the two lists all items but
--- those that the pair gained or lost, which it takes and gives back.
+-- What undoing a pair leaves of an element: its kind; each member outside the stamp that is the
+-- same before and after, or each one if the element is of another kind; and of the two lists all
+-- items but those that the pair gained or lost, which it takes and gives back.
 pub record Leaves (pair : Pair) (now new : ElementValue) : Type 0 where
+  pub kind : new.kind ≡ now.kind
   pub scalars : (name : List ℕ) → (scalar_of pair.before name ≡ scalar_of pair.after name)
       ⊎ (pair.after.kind ≢ now.kind)
       → scalar_of new name ≡ scalar_of now name

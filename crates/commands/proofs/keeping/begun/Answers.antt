@@ -22,7 +22,7 @@ returns-in_ok-resume-in-Journal-clause-begun g c =
     let head = c.in_ok-head-in-Journal.head in
     let begun : Begun = record { head = head; stored = c.in_ok-resume-in-Journal.field-0.elements } in
     subst (λ (begins : Begins). (bytes : List ℕ)
-    × WasRead (limit_from begins) (span (g.S.Source.seen c.args.input.now) (g.S.Source.seen c.recovered.new.input))
+    × WasRead (limit_from begins) (span (g.S.Source.seen c.args.input.now) (g.S.Source.seen c.recorded.new.input))
     bytes
     × BeginsWith begins bytes begun) (sym c.in-Journal.is) (
       read.0,
@@ -30,6 +30,7 @@ returns-in_ok-resume-in-Journal-clause-begun g c =
       (
         record { head = head; elements = c.in_ok-head-in-Journal.store.elements },
         read.2,
+        read.3,
         ap (λ (stored : List ElementValue). record { head = head; stored = stored }) c.in_ok-resume-in-Journal.ensures,
       ),
     )
@@ -39,10 +40,10 @@ returns-in_ok-resume-in-Journal-clause-whole g c =
     let read = c.in_ok-head-in-Journal.ensures.recovered in
     let elements = c.in_ok-head-in-Journal.store.elements in
     let is = sym c.in_ok-resume-in-Journal.ensures in (
-      c.recovered_is_whole.ensures.head read.0 _ read.2,
+      c.recovered_is_whole.ensures.head read.0 _ read.3,
       (
         subst (All IsWholeElement) is (c.resumed_elements_have_keys.ensures.whole elements
-            (c.recovered_is_whole.ensures.elements read.0 _ read.2)),
+            (c.recovered_is_whole.ensures.elements read.0 _ read.3)),
         subst HaveKeys is (c.resumed_elements_have_keys.ensures.keys elements),
       ),
     )

@@ -5,6 +5,7 @@ use Rattle.commands.specs.Ends.{span, limit_of, EndsWith, HasLeft, WasDone, WasR
 use Rattle.commands.specs.Drills.{EndsDrilling}
 use Rattle.commands.specs.Faults.{Noted, status_of}
 use Rattle.commands.specs.Keeping.{EndsKeeping}
+use Rattle.commands.specs.KeptRooms.{IsKeptToClose}
 use Rattle.commands.specs.Serving.{EndsServing, ends}
 use Rattle.commands.specs.declared.status.Fault.{Fault}
 use Rattle.commands.specs.declared.status.InputRefusal.{InputRefusal}
@@ -101,6 +102,16 @@ returns-in-Ok-Serve-clause-serve_too_long g c service is told long =
     (span (g.L.Links.seen c.args.links.now) (g.L.Links.seen c.serve_run.new.links)))
     (span (g.N.Sink.seen c.args.notes.now) (g.N.Sink.seen c.serve_run.new.notes)) told long c.serve_run.result
     c.serve_run.ensures.served
+
+pub returns-in-Ok-Keep-clause-keep_complete : goal.returns-in-Ok-Keep-clause-keep_complete
+returns-in-Ok-Keep-clause-keep_complete g c keeping is =
+    let same = same-keeping c.in-Ok-Keep.keeping keeping (sym (c.in-Ok-Keep.ensures.asked
+    ∙ ap Some c.in-Ok-Keep.field-0-is) ∙ is) in
+    subst (λ (own : Keeping). IsKeptToClose own
+    (ends (span (g.S.Source.seen c.args.input.now) (g.S.Source.seen c.keep_run.new.input))
+    (span (g.K.Sink.seen c.args.output.now) (g.K.Sink.seen c.keep_run.new.output))
+    (span (g.L.Links.seen c.args.links.now) (g.L.Links.seen c.keep_run.new.links))) c.keep_run.result) same
+    c.keep_run.ensures.complete
 
 pub returns-in-Ok-Keep-clause-keep_input : goal.returns-in-Ok-Keep-clause-keep_input
 returns-in-Ok-Keep-clause-keep_input g c keeping bytes is left reads =

@@ -1,0 +1,9 @@
+pub mod EffectLaws
+pub mod Freed
+pub mod GivenLaws
+pub mod PartLaws
+pub mod Placed
+pub mod SpotLaws
+pub mod Stamps
+pub mod Standing
+pub mod CallerLemmas

@@ -1,5 +1,0 @@
-pub mod EffectLaws
-pub mod GivenLaws
-pub mod PartLaws
-pub mod SpotLaws
-pub mod CallerLemmas

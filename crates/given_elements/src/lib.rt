@@ -1,4 +1,0 @@
-//! What a command gives are elements.
-#![tactic(auto)]
-
-pub mod laws;
