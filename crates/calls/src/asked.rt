@@ -8,11 +8,11 @@ use crate::follow::{Draws, are_same, draw, draw_elements, draws_of, element_of_t
 use board_base::{List, Stop};
 use board_commands::{Capture, Command, Side, Spot};
 use case_text::{given, push_truth};
-use drawn_words::generator_of;
 use elem::{Element, Stamp};
 use json_text::{Raw, Text};
 use rand_pcg::Pcg32;
 use replica::Replica;
+use session_random::generator_of;
 use std::alloc::{AllocError, Global};
 
 /// What each command stamps with.

@@ -2,15 +2,15 @@
 
 use board_base::{List, Stop};
 use case_text::{count_of, given, number_or, push_truth};
-use drawn_words::{draw_word, generator_of};
 use elem::{Element, same};
 use elem_read::read_element;
 use json_reader::scan;
 use json_text::{Raw, Text};
-use live_view::LiveView;
+use kept_view::KeptView;
 use rand_pcg::Pcg32;
 use replica::Replica;
 use scene_json::{members, shaped};
+use session_random::{draw_word, generator_of};
 use std::alloc::{AllocError, Global};
 use view::view_of;
 
@@ -93,7 +93,7 @@ fn is_shown(alloc: Global, replica: &Replica) -> Result<bool, AllocError> {
 }
 
 /// Whether these are the elements that a view shows.
-pub fn are_shown(view: &LiveView, elements: &[Element]) -> bool {
+pub fn are_shown(view: &KeptView, elements: &[Element]) -> bool {
     let shown = view.elements();
     if shown.len() != elements.len() {
         return false;

@@ -7,7 +7,7 @@ use case_text::{given, push_member_of};
 use elem::{Element, SharedElement};
 use elem_store::Store;
 use json_text::{Raw, Text, push_quote};
-use live_view::LiveView;
+use kept_view::KeptView;
 use scene_json::push_comma;
 use std::alloc::{AllocError, Global};
 use std::marker::Model;
@@ -16,7 +16,7 @@ use std::slice;
 /// What is stored, and its view.
 struct Board {
     store: Store,
-    view: LiveView,
+    view: KeptView,
 }
 
 // By hand, so that whoever drops a board sees one call and not what it holds.
@@ -49,7 +49,7 @@ impl Board {
     fn new(alloc: Global) -> Board {
         Board {
             store: Store::new(alloc),
-            view: LiveView::new(alloc),
+            view: KeptView::new(alloc),
         }
     }
 
@@ -67,7 +67,7 @@ impl Board {
     }
 
     /// The view, which has taken an update that isn't stored yet.
-    fn taken(self, e: &Element) -> Result<LiveView, AllocError> {
+    fn taken(self, e: &Element) -> Result<KeptView, AllocError> {
         let Board { store, view } = self;
         let (store, mut view) = (store, view);
         view.take(&store, slice::from_ref(e))?;

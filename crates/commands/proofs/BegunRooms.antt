@@ -7,7 +7,7 @@ use Rattle.elem.specs.ElementValue.{ElementValue}
 use Rattle.elem_read.specs.Reading.{IsWholeElement}
 use Rattle.elem_store.specs.Updates.{ids_of}
 use Rattle.frac_keys.specs.Rising.{are_rising}
-use Rattle.intake.specs.Lines.{lines_of}
+use Rattle.input_texts.specs.Lines.{lines_of}
 use Rattle.room_disk.specs.Recovering.{IsRecoveredAs, Recovered}
 use Rattle.room_disk.specs.Resuming.{AreFilled, IsFilled, resumed}
 use Rattle.scene_file.specs.Whole.{HaveKeys}

@@ -17,7 +17,7 @@ use Rattle.frac_keys.specs.Rising.{are_rising}
 use Rattle.json_reader.specs.declared.fault.JsonFault.{JsonFault}
 use Rattle.json_text.proofs.CallerLemmas.{Stands-once}
 use Rattle.json_text.specs.Value.{Stands}
-use Rattle.intake.specs.Lines.{lines_of}
+use Rattle.input_texts.specs.Lines.{lines_of}
 use Rattle.room_disk.specs.Recovering.{AreKept, AreUpdates, HasFaultyLine, IsRecoveredAs, IsSceneReadAs, IsUpdateLineFault, Recovered, empty_head}
 use Rattle.room_disk.specs.declared.fault.LineFault.TheVariants.{Scene as SceneLine, Message as MessageLine, Other}
 use Rattle.room_disk.specs.declared.fault.LineFault.{LineFault}

@@ -14,7 +14,7 @@ use Rattle.scene_file.specs.declared.layout.Layout.TheVariants.{Compact}
 use Rattle.scene_file.specs.declared.fault.SceneFault.{SceneFault}
 use Rattle.scene_file.specs.declared.fault.SceneFault.TheVariants.{Json, NotObject, NotScene, Elements, AppState, Files, Element}
 use Rattle.scene_file.proofs.CallerLemmas.{fault-once}
-use Rattle.intake.specs.Lines.{lines_of}
+use Rattle.input_texts.specs.Lines.{lines_of}
 use Rattle.room_disk.specs.Recovering.{HasFaultyLine, IsLineFault, IsRecoveredAs, IsSceneLineFault, IsSceneReadAs, IsUpdateLineFault, Recovered}
 use Rattle.room_disk.specs.declared.fault.LineFault.{LineFault}
 use Rattle.room_disk.specs.declared.fault.LineFault.TheVariants.{Scene as SceneLine, Message as MessageLine, Other}

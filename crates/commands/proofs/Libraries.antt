@@ -5,7 +5,7 @@ use Rattle.std.proofs.Math.Seq.{drop-append_seam}
 use Rattle.std.proofs.lemmas.List.Elements.{All-contains}
 use Rattle.json_text.specs.Characters.{is_blank}
 use Rattle.json_text.specs.Value.{Stands}
-use Rattle.intake.specs.Texts.{TextsLead}
+use Rattle.input_texts.specs.Texts.{TextsLead}
 use Rattle.library.specs.Inserting.{clip_of, clip_text}
 use Rattle.library.specs.Libraries.{HaveItems, IsLibraryOfAll}
 use Rattle.library.specs.Reading.{IsLibraryOf, IsWholeItem}

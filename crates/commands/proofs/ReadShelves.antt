@@ -3,9 +3,9 @@ use Rattle.std.proofs.Common.{◌≡◌, ◌⊎◌, inl, inr, ℕ, ◌+◌, ◌=
 use Rattle.std.proofs.lemmas.Bool.{false≢true}
 use Rattle.std.proofs.lemmas.Bool.Decides.{nat_tests}
 use Rattle.json_text.specs.Characters.{is_blank}
-use Rattle.intake.specs.Texts.{HasTexts as AreTexts, IsStopped}
-use Rattle.intake.specs.declared.reading.Stopped.{Stopped}
-use Rattle.intake.specs.declared.reading.Stopped.TheVariants.{Faulty, Refused, Extra}
+use Rattle.input_texts.specs.Texts.{HasTexts as AreTexts, IsStopped}
+use Rattle.input_texts.specs.declared.reading.Stopped.{Stopped}
+use Rattle.input_texts.specs.declared.reading.Stopped.TheVariants.{Faulty, Refused, Extra}
 use Rattle.library.specs.Best.{AreBest}
 use Rattle.library.specs.Libraries.{HaveItems}
 use Rattle.library.specs.Reading.{IsLibraryOf}

@@ -6,9 +6,9 @@ use Rattle.std.proofs.lemmas.Grind.{flat_map-append}
 use Rattle.std.proofs.lemmas.Bool.{false≢true}
 use Rattle.std.proofs.lemmas.Bool.Decides.{nat_tests}
 use Rattle.json_text.specs.Characters.{is_blank}
-use Rattle.intake.specs.Texts.{TextsLead, HasTexts, IsStopped}
-use Rattle.intake.specs.declared.reading.Stopped.{Stopped}
-use Rattle.intake.specs.declared.reading.Stopped.TheVariants.{Faulty, Refused, Extra}
+use Rattle.input_texts.specs.Texts.{TextsLead, HasTexts, IsStopped}
+use Rattle.input_texts.specs.declared.reading.Stopped.{Stopped}
+use Rattle.input_texts.specs.declared.reading.Stopped.TheVariants.{Faulty, Refused, Extra}
 use Rattle.elem.specs.ElementValue.{ElementValue}
 use Rattle.elem_store.specs.Updates.{AreStored, stored_of}
 use Rattle.commands.specs.Answers.{IsOneRefusal, IsRefusal}

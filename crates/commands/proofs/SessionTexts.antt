@@ -6,9 +6,9 @@ use Rattle.std.proofs.lemmas.Bool.Decides.{nat_tests}
 use Rattle.json_text.specs.Characters.{is_blank}
 use Rattle.json_text.specs.Value.{Stands}
 use Rattle.json_reader.specs.Faults.{IsFirstFault}
-use Rattle.intake.specs.Texts.{TextsLead, HasTexts, IsStopped}
-use Rattle.intake.specs.declared.reading.Stopped.{Stopped}
-use Rattle.intake.specs.declared.reading.Stopped.TheVariants.{Faulty, Refused, Extra}
+use Rattle.input_texts.specs.Texts.{TextsLead, HasTexts, IsStopped}
+use Rattle.input_texts.specs.declared.reading.Stopped.{Stopped}
+use Rattle.input_texts.specs.declared.reading.Stopped.TheVariants.{Faulty, Refused, Extra}
 use Rattle.session_text.specs.Events.{EventText, header}
 use Rattle.session_text.specs.Sessions.{most_events, messages_of, made_after, EventsLead, LeadTo, IsSessionOf}
 use Rattle.session_text.specs.Taken.{TakesText, is_full, texts_in}

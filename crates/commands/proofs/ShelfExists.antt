@@ -4,7 +4,7 @@ use Rattle.json_text.specs.Characters.{is_blank, is_space}
 use Rattle.json_text.specs.Value.{Stands}
 use Rattle.json_text.proofs.CallerLemmas.{Value-compact, Runs-either}
 use Rattle.json_reader.proofs.CallerLemmas.{value-or-fault}
-use Rattle.intake.specs.Texts.{TextsLead}
+use Rattle.input_texts.specs.Texts.{TextsLead}
 use Rattle.library.specs.Libraries.{HaveItems}
 use Rattle.library.specs.Reading.{IsLibraryOf}
 use Rattle.library.specs.declared.item.Item.{Item}

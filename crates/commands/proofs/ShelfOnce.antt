@@ -6,7 +6,7 @@ use Rattle.json_text.specs.Value.{Stands}
 use Rattle.json_text.proofs.CallerLemmas.{Stands-once, drop-once}
 use Rattle.json_reader.specs.Faults.{IsFirstFault}
 use Rattle.json_reader.specs.declared.fault.JsonFault.{JsonFault}
-use Rattle.intake.specs.Texts.{TextsLead}
+use Rattle.input_texts.specs.Texts.{TextsLead}
 use Rattle.library.specs.Libraries.{HaveItems, IsLibraryOfAll}
 use Rattle.library.specs.Reading.{IsLibFault, IsLibraryOf}
 use Rattle.library.specs.declared.fault.LibFault.{LibFault}

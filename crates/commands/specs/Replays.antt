@@ -4,8 +4,8 @@ use Rattle.std.specs.Prelude.{◌≡◌, ◌≤◌, ◌<◌, ◌+◌, ℕ, List,
 use Rattle.std.specs.List.{AllByRecursion}
 use Rattle.board_ends.specs.Ends.{SinkEnd, SourceEnd, Took}
 use Rattle.elem_store.specs.Updates.{AreBest, HaveSameUpdates}
-use Rattle.undoing.specs.Leaving.{StepLeavesOthers}
-use Rattle.undoing.specs.Steps.{Turn}
+use Rattle.undo_model.specs.Leaving.{StepLeavesOthers}
+use Rattle.undo_model.specs.Steps.{Turn}
 use Rattle.replica.specs.Back.{HasNothingPending, IsAs, IsCaptured, IsFound}
 use Rattle.replica.specs.State.{after_redo, after_undo, captured, redo_on, undo_on}
 use Rattle.scene_file.specs.Scenes.{scene_text}

@@ -5,7 +5,7 @@ use Rattle.json_text.specs.Characters.{is_blank}
 use Rattle.json_text.specs.Value.{Stands}
 use Rattle.json_reader.specs.Faults.{IsFirstFault}
 use Rattle.json_reader.specs.declared.fault.JsonFault.{JsonFault}
-use Rattle.intake.specs.Texts.{TextsLead}
+use Rattle.input_texts.specs.Texts.{TextsLead}
 use Rattle.library.specs.Best.{IsBest}
 use Rattle.library.specs.Inserting.{clip_of}
 use Rattle.library.specs.Libraries.{HaveItems, IsLibraryOfAll}

@@ -1,7 +1,7 @@
 //! The scenes or the session of an input.
 
 ghost use Rattle.std.specs.Prelude.{◌≡◌, ℕ, [], ◌∷◌, List as Items, IfOk, IfErr};
-ghost use Rattle.intake.specs.Texts.{AreRead};
+ghost use Rattle.input_texts.specs.Texts.{AreRead};
 ghost use Rattle.library.specs.Best.{AreBest};
 ghost use Rattle.library.specs.Libraries.{HaveItems};
 ghost use Rattle.library.specs.declared.item.Item.{Item};
@@ -24,7 +24,7 @@ use crate::taking::{Gathered, OneScene, OneSession, Shelved};
 use board_base::{Bytes, Stop};
 use board_ends::{ReadError, Source, read_all};
 use elem_store::Store;
-use intake::{Reader, Stopped, read_texts};
+use input_texts::{Reader, Stopped, read_texts};
 use library::{LibFault, Shelf};
 use scene_file::{Head, Scene, SceneFault};
 use session_text::{Session, SessionFeed, TextFault};

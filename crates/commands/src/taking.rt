@@ -10,7 +10,7 @@ ghost use Rattle.commands.specs.inner.SessionTexts.{session_seen};
 use crate::heads::Heads;
 use board_base::{List, Stop};
 use elem_store::Store;
-use intake::Reader;
+use input_texts::Reader;
 use json_text::Raw;
 use library::{Item, LibFault, Shelf, read_library};
 use scene_file::{Scene, SceneFault, scene_of};

@@ -19,10 +19,10 @@ use Rattle.delta.specs.Delta.{Delta}
 use Rattle.delta.specs.Pairs.{Pair, exchanged}
 use Rattle.delta.specs.Parts.{inverses}
 use Rattle.delta.proofs.CallerLemmas.{entry-exchanged, same_members, later_greater}
-use Rattle.undoing.specs.Differing.{differ}
-use Rattle.undoing.specs.Steps.{Reverted, is_visible, is_full, is_seen, reverted, given, full_id}
-use Rattle.undoing.specs.Undoing.{undone}
-use Rattle.undoing.proofs.CallerLemmas as turns
+use Rattle.undo_model.specs.Differing.{differ}
+use Rattle.undo_model.specs.Steps.{Reverted, is_visible, is_full, is_seen, reverted, given, full_id}
+use Rattle.undo_model.specs.Undoing.{undone}
+use Rattle.undo_model.proofs.CallerLemmas as turns
 use Rattle.frac_keys.proofs.CallerLemmas.{rise_between-lower}
 use Rattle.history.specs.Pairs.{IsEntryOf}
 use Rattle.history.specs.Steps.{Reverts, Differ, IsNow, IsSeen, AreGiven, IsFullId, IsLeastFull}

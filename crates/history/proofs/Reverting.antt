@@ -8,10 +8,10 @@ use Rattle.delta.specs.Delta.{Delta}
 use Rattle.delta.specs.Pairs.{Pair, IsPartOf}
 use Rattle.delta.specs.Parts.{inverse}
 use Rattle.delta.proofs.CallerLemmas.{applied-undone}
-use Rattle.undoing.specs.Differing.{differ}
-use Rattle.undoing.specs.Entries.{IsOfElements}
-use Rattle.undoing.specs.Undoing.{undone}
-use Rattle.undoing.proofs.CallerLemmas.{differ-true, differ-false, undone-stamp, undone-undoes, undone-element, reverts-undone}
+use Rattle.undo_model.specs.Differing.{differ}
+use Rattle.undo_model.specs.Entries.{IsOfElements}
+use Rattle.undo_model.specs.Undoing.{undone}
+use Rattle.undo_model.proofs.CallerLemmas.{differ-true, differ-false, undone-stamp, undone-undoes, undone-element, reverts-undone}
 use Rattle.history.specs.Steps.{Reverts, Differ}
 
 -- ---- a pair of elements, its part, and an element now

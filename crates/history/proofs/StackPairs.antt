@@ -13,8 +13,8 @@ use Rattle.elem_store.proofs.CallerLemmas.{Contains-head, Contains-cons}
 use Rattle.delta.specs.Delta.{Delta}
 use Rattle.delta.specs.Pairs.{Pair, EntryStandsFor, exchanged}
 use Rattle.delta.specs.Parts.{inverses}
-use Rattle.undoing.proofs.CallerLemmas.{given-elements, made-entry}
-use Rattle.undoing.specs.Steps.{Sought, Turn, sought, is_seen, given, full_id, made, turn_of, turn_unless, step}
+use Rattle.undo_model.proofs.CallerLemmas.{given-elements, made-entry}
+use Rattle.undo_model.specs.Steps.{Sought, Turn, sought, is_seen, given, full_id, made, turn_of, turn_unless, step}
 use Rattle.history.specs.Pairs.{IsEntryOf, AreEntriesOf, StackStandsFor, with_pairs, pairs_left}
 use Rattle.history.specs.Stacks.{AreUnseen, IsTopmostSeen, HasStepped, StopsAt, with_entry, redo_left}
 use Rattle.history.specs.Steps.{IsSeen, IsStep}

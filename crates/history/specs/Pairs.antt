@@ -3,7 +3,7 @@
 use Rattle.std.specs.Prelude.{List, [], ◌∷◌, reverse}
 use Rattle.delta.specs.Delta.{Delta}
 use Rattle.delta.specs.Pairs.{Pair, EntryStandsFor}
-use Rattle.undoing.specs.Entries.{IsEntry}
+use Rattle.undo_model.specs.Entries.{IsEntry}
 
 -- The entry stands for the pairs, which are an entry too: each is changed and of elements, in the
 -- order of their ids.

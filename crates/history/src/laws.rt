@@ -13,7 +13,7 @@ ghost use Rattle.history.specs.Pairs.{IsEntryOf, StackStandsFor, with_pairs, pai
 ghost use Rattle.history.specs.Stacks.{HasStepped, HaveStoredIds, AreUnseen, StopsAt, with_entry, redo_left};
 ghost use Rattle.history.specs.Steps.{AreGiven};
 ghost use Rattle.history.specs.Undone.{EachIsElement, ArePairsOfElements, AreUndone, ComesBack};
-ghost use Rattle.undoing.specs.Steps.{Turn, step};
+ghost use Rattle.undo_model.specs.Steps.{Turn, step};
 
 /// A step undoes the pairs of elements that its entry stands for: what others changed meanwhile
 /// stays.

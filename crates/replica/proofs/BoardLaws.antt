@@ -17,9 +17,9 @@ use Rattle.board_commands.specs.declared.command.Capture.TheVariants.{Now, Later
 use Rattle.history.specs.Pairs.{IsEntryOf, StackStandsFor, with_pairs, pairs_left}
 use Rattle.history.specs.Stacks.{Stacks, HasStoredIds, HaveStoredIds, noted, with_entry, redo_left}
 use Rattle.history.proofs.CallerLemmas.{noted-stands, left-stands, left-ids, noted-ids}
-use Rattle.undoing.specs.Carrying.{taken_all, carried_all}
-use Rattle.undoing.specs.Differing.{is_changed, pending}
-use Rattle.undoing.proofs.CallerLemmas.{pending-entry, taken_all-elements, taken_all-rising, carried_all-elements, carried_all-rising, takings-elements}
+use Rattle.undo_model.specs.Carrying.{taken_all, carried_all}
+use Rattle.undo_model.specs.Differing.{is_changed, pending}
+use Rattle.undo_model.proofs.CallerLemmas.{pending-entry, taken_all-elements, taken_all-rising, carried_all-elements, carried_all-rising, takings-elements}
 use Rattle.replica.specs.Boards.{Told, ToldStandsFor, IsSound, IsTold}
 use Rattle.replica.specs.inner.Boards.{HasTakenAll, HasCarriedAll, HasCaptured, HasStoredGiven}
 use Rattle.replica.specs.State as state

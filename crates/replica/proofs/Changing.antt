@@ -12,10 +12,10 @@ use Rattle.elem_store.specs.Updates.{element_of, ids_of}
 use Rattle.elem_store.proofs.CallerLemmas.{same_id, Contains-head, Contains-filter, filter-Contains, find-Some, member}
 use Rattle.delta.specs.Pairs.{Pair, pair_with, pairs_from, IsChanged}
 use Rattle.delta.specs.Parts.{counted}
-use Rattle.undoing.specs.Carrying.{taken_all}
-use Rattle.undoing.specs.Differing.{is_changed, pending}
-use Rattle.undoing.specs.Entries.{IsEntry}
-use Rattle.undoing.proofs.CallerLemmas.{changed-is, changed-false, found-is, pairs-elements, pending-entry, taken_all-elements, taken_all-rising}
+use Rattle.undo_model.specs.Carrying.{taken_all}
+use Rattle.undo_model.specs.Differing.{is_changed, pending}
+use Rattle.undo_model.specs.Entries.{IsEntry}
+use Rattle.undo_model.proofs.CallerLemmas.{changed-is, changed-false, found-is, pairs-elements, pending-entry, taken_all-elements, taken_all-rising}
 use Rattle.replica.specs.Back.{AgreesWith, Alters, IsStoredChange, changed}
 use Rattle.replica.specs.Sound.{AreStoredAlike}
 use Rattle.replica.specs.State.{State, noted, stored_with}

@@ -6,8 +6,8 @@ use Rattle.elem.specs.ElementValue.{ElementValue}
 use Rattle.elem_store.specs.Updates.{Taking, stored_of, ids_of, is_newer, is_taken, takings, AreStored}
 use Rattle.elem_store.proofs.CallerLemmas.{AreStored-itself, AreStored-push}
 use Rattle.reconcile.specs.Ids.{free_elements}
-use Rattle.undoing.specs.Carrying.{with_put, taken, taken_all, carried_all}
-use Rattle.undoing.proofs.CallerLemmas.{taken-has}
+use Rattle.undo_model.specs.Carrying.{with_put, taken, taken_all, carried_all}
+use Rattle.undo_model.proofs.CallerLemmas.{taken-has}
 use Rattle.replica.specs.State.{State, after_delivery}
 
 some-not_none : {X : Type 0} (x : X) (xs ys : List X) → ys ≡ x ∷ xs → ys ≡ [] → ⊥

@@ -12,12 +12,12 @@ use Rattle.elem.specs.Stamp.{stamped}
 use Rattle.elem_store.specs.Updates.{element_of, ids_of}
 use Rattle.elem_store.proofs.CallerLemmas.{find-Some, is_some-find, list_any-false}
 use Rattle.delta.specs.Pairs.{Pair, pair_with}
-use Rattle.undoing.specs.Carrying.{taken_all}
-use Rattle.undoing.specs.Differing.{differ}
-use Rattle.undoing.specs.Entries.{IsEntry, IsGiven}
-use Rattle.undoing.specs.Steps.{Reverted, reverted, is_visible, is_seen, given, made}
-use Rattle.undoing.specs.Undoing.{undone}
-use Rattle.undoing.proofs.CallerLemmas.{differ-false, found-is, given-each, given-all, given-taken, given-rise, undone-stamp, undone-element, undone-back}
+use Rattle.undo_model.specs.Carrying.{taken_all}
+use Rattle.undo_model.specs.Differing.{differ}
+use Rattle.undo_model.specs.Entries.{IsEntry, IsGiven}
+use Rattle.undo_model.specs.Steps.{Reverted, reverted, is_visible, is_seen, given, made}
+use Rattle.undo_model.specs.Undoing.{undone}
+use Rattle.undo_model.proofs.CallerLemmas.{differ-false, found-is, given-each, given-all, given-taken, given-rise, undone-stamp, undone-element, undone-back}
 use Rattle.replica.proofs.TakenAt.{taken-at, taken-else}
 
 -- ---- elements that are the same but for stamps

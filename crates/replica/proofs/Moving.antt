@@ -13,10 +13,10 @@ use Rattle.elem_store.proofs.CallerLemmas.{member}
 use Rattle.delta.specs.Pairs.{Pair, pair_with, pairs_from}
 use Rattle.delta.specs.Parts.{counted}
 use Rattle.history.specs.declared.planned.Direction.TheVariants.{Undo, Redo}
-use Rattle.undoing.specs.Carrying.{taken_all}
-use Rattle.undoing.specs.Differing.{same_kind, differ, is_changed, pending}
-use Rattle.undoing.specs.Steps.{step}
-use Rattle.undoing.proofs.CallerLemmas.{differ-same, taken_all-rising}
+use Rattle.undo_model.specs.Carrying.{taken_all}
+use Rattle.undo_model.specs.Differing.{same_kind, differ, is_changed, pending}
+use Rattle.undo_model.specs.Steps.{step}
+use Rattle.undo_model.proofs.CallerLemmas.{differ-same, taken_all-rising}
 use Rattle.links.proofs.CallerLemmas.{filter-none_of}
 use Rattle.replica.specs.Back.{AgreesWith, IsAs, HasNothingPending, IsCaptured, IsStoredChange, changed, changed_all, AreChanges, Call, IsDone, undone_all, redone_all, AreUndos, AreRedos}
 use Rattle.replica.specs.Sound.{IsSoundState}

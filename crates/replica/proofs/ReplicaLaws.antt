@@ -15,8 +15,8 @@ use Rattle.board_commands.specs.declared.command.Command.{Command}
 use Rattle.effects.specs.declared.refusal.Refusal.{Refusal}
 use Rattle.history.specs.Stacks.{OnFull, put_step}
 use Rattle.history.specs.declared.planned.Direction.{Direction}
-use Rattle.undoing.specs.Differing.{pending}
-use Rattle.undoing.specs.Steps.{Turn}
+use Rattle.undo_model.specs.Differing.{pending}
+use Rattle.undo_model.specs.Steps.{Turn}
 use Rattle.replica.specs.Boards.{Told, ToldStandsFor, IsTold, IsPlanOf, IsPlannedStep}
 use Rattle.replica.specs.inner.Boards.{HasCarriedAll, HasPutStep, HasStopped, HasStoredGiven, HasTurned}
 use Rattle.replica.specs.declared.planned.PlannedStep.{PlannedStep}

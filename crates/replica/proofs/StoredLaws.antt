@@ -10,10 +10,10 @@ use Rattle.elem_store.proofs.CallerLemmas.{IsBestOf-stored, same_id, of_itself, 
 use Rattle.links.proofs.CallerLemmas.{list_any-from}
 use Rattle.delta.specs.Delta.{Delta}
 use Rattle.delta.specs.Pairs.{Pair}
-use Rattle.undoing.specs.Carrying.{with_put, taken_all, followed, carried_over, carried, carried_all}
-use Rattle.undoing.specs.Differing.{same_kind}
-use Rattle.undoing.specs.Undoing.{undone, undone_in}
-use Rattle.undoing.proofs.CallerLemmas.{put-each, taken_all-is, taken_all-stored, carried-rising}
+use Rattle.undo_model.specs.Carrying.{with_put, taken_all, followed, carried_over, carried, carried_all}
+use Rattle.undo_model.specs.Differing.{same_kind}
+use Rattle.undo_model.specs.Undoing.{undone, undone_in}
+use Rattle.undo_model.proofs.CallerLemmas.{put-each, taken_all-is, taken_all-stored, carried-rising}
 use Rattle.history.specs.Stacks.{HaveStoredIds}
 use Rattle.replica.specs.Boards.{AreKnown}
 

@@ -7,8 +7,8 @@ use Rattle.elem.specs.Order.{has_id}
 use Rattle.elem_store.specs.Updates.{element_of, ids_of, is_newer, is_taken}
 use Rattle.elem_store.proofs.CallerLemmas.{of_itself, of_other, Contains-head, Contains-cons, Contains-cases, less-other}
 use Rattle.delta.proofs.CallerLemmas.{later_greater}
-use Rattle.undoing.specs.Carrying.{taken, taken_all}
-use Rattle.undoing.proofs.CallerLemmas.{taken-has}
+use Rattle.undo_model.specs.Carrying.{taken, taken_all}
+use Rattle.undo_model.proofs.CallerLemmas.{taken-has}
 use Rattle.frac_keys.proofs.CallerLemmas.{rise_between-lower}
 
 -- the others stay

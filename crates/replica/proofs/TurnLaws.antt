@@ -15,9 +15,9 @@ use Rattle.history.specs.declared.step.Step.{Step}
 use Rattle.history.specs.declared.step.Step.TheVariants.{Done, Nothing}
 use Rattle.history.specs.Stacks.{Stacks, HaveStoredIds, HasStepped, chosen, noted, other, side}
 use Rattle.history.proofs.CallerLemmas.{ids-stored, step-nothing, step-full, step-done, step-taken}
-use Rattle.undoing.specs.Carrying.{taken_all}
-use Rattle.undoing.specs.Differing.{pending}
-use Rattle.undoing.specs.Steps.{Turn, step}
+use Rattle.undo_model.specs.Carrying.{taken_all}
+use Rattle.undo_model.specs.Differing.{pending}
+use Rattle.undo_model.specs.Steps.{Turn, step}
 use Rattle.replica.specs.Boards.{Told, ToldStandsFor, IsSound, StacksComeBy}
 use Rattle.replica.specs.inner.Boards.{BecomeStored, HasTurned, HasStopped}
 use Rattle.replica.specs.State as state

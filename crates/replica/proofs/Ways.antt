@@ -9,10 +9,10 @@ use Rattle.elem.specs.Facts.{greatest_whole}
 use Rattle.elem.specs.Said.{AreElements}
 use Rattle.elem_store.specs.Updates.{element_of, ids_of}
 use Rattle.delta.specs.Pairs.{Pair, exchanged}
-use Rattle.undoing.specs.Carrying.{taken_all}
-use Rattle.undoing.specs.Entries.{IsEntry}
-use Rattle.undoing.specs.Steps.{is_seen, given, full_id, made, Sought, sought, Turn, turn_of, turn_unless, step}
-use Rattle.undoing.proofs.CallerLemmas.{step-turn, step-stops, full-is, given-elements, made-entry, taken_all-elements, taken_all-rising}
+use Rattle.undo_model.specs.Carrying.{taken_all}
+use Rattle.undo_model.specs.Entries.{IsEntry}
+use Rattle.undo_model.specs.Steps.{is_seen, given, full_id, made, Sought, sought, Turn, turn_of, turn_unless, step}
+use Rattle.undo_model.proofs.CallerLemmas.{step-turn, step-stops, full-is, given-elements, made-entry, taken_all-elements, taken_all-rising}
 use Rattle.replica.specs.Back.{AgreesWith, IsFound}
 use Rattle.replica.proofs.Agreeing.{agrees-same}
 use Rattle.replica.proofs.Leading.{SameAs, Meets, met-same, Leads, leads-once, leads-from, IsVisible, seen-met, leads-on, leads-back, visible-back}

@@ -9,8 +9,8 @@ use Rattle.elem_store.specs.Updates.{element_of, ids_of, is_taken}
 use Rattle.view.specs.Shown.{live_elements, shown}
 use Rattle.history.specs.declared.planned.Direction.{Direction}
 use Rattle.history.specs.declared.planned.Direction.TheVariants.{Undo, Redo}
-use Rattle.undoing.specs.Differing.{pending}
-use Rattle.undoing.specs.Steps.{Turn}
+use Rattle.undo_model.specs.Differing.{pending}
+use Rattle.undo_model.specs.Steps.{Turn}
 use Rattle.replica.specs.State.{State, captured, stored_with, turn_on, after_turn}
 
 -- Each old element is stored now the same but for the stamp, and every other element that is stored

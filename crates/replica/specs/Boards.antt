@@ -13,7 +13,7 @@ use Rattle.history.specs.Stacks.{Stacks, FitsIn, HaveStoredIds, HasTakenBack, Ar
 use Rattle.history.specs.declared.planned.Direction.{Direction}
 use Rattle.history.specs.declared.step.Step.{Step}
 use Rattle.history.specs.declared.step.Step.TheVariants.{Done, Nothing}
-use Rattle.undoing.specs.Differing.{pending}
+use Rattle.undo_model.specs.Differing.{pending}
 use Rattle.snapshot.specs.Touched.{AreUntouched}
 use Rattle.replica.specs.declared.board.Board.{Board}
 use Rattle.replica.specs.declared.planned.PlannedStep.{PlannedStep}

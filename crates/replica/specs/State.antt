@@ -16,9 +16,9 @@ use Rattle.history.specs.declared.planned.Direction.{Direction}
 use Rattle.history.specs.declared.planned.Direction.TheVariants.{Undo, Redo}
 use Rattle.history.specs.declared.step.Step.{Step}
 use Rattle.history.specs.declared.step.Step.TheVariants.{Done, Nothing}
-use Rattle.undoing.specs.Carrying.{taken_all, carried_all}
-use Rattle.undoing.specs.Differing.{pending}
-use Rattle.undoing.specs.Steps.{Turn, step}
+use Rattle.undo_model.specs.Carrying.{taken_all, carried_all}
+use Rattle.undo_model.specs.Differing.{pending}
+use Rattle.undo_model.specs.Steps.{Turn, step}
 
 -- The stored elements and those of the snapshot, in the order of their ids; the entries that can be
 -- undone and redone, the next one first, each the elements before and after that it is of; and the

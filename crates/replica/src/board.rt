@@ -10,8 +10,8 @@ ghost use Rattle.effects.specs.Changed.{outcome, OnFault};
 ghost use Rattle.board_commands.specs.Limits.{IsWithinLimits};
 ghost use Rattle.history.specs.Stacks as stacks;
 ghost use Rattle.history.specs.Stacks.{FitsIn, OnFull, noted};
-ghost use Rattle.undoing.specs.Carrying.{taken_all};
-ghost use Rattle.undoing.specs.Differing.{pending};
+ghost use Rattle.undo_model.specs.Carrying.{taken_all};
+ghost use Rattle.undo_model.specs.Differing.{pending};
 ghost use Rattle.replica.specs.Boards.{told, IsBoard, IsPlanOf, IsPlannedStep, IsUntouched};
 ghost use Rattle.replica.specs.inner.Boards.{BecomeStored, GivesElements, GivesTaken, HasCaptured, HasCarriedAll, HasPutStep, HasStopped, HasStoredGiven, HasTakenAll, stored_by};
 
@@ -23,7 +23,7 @@ use effects::{Lookup, Refusal, changed};
 use elem::{Element, Stamp, copies_of};
 use elem_store::Store;
 use history::{Direction, History, HistoryStep, Step};
-use live_view::LiveView;
+use kept_view::KeptView;
 use snapshot::{Snapshot, Touched};
 use std::alloc::{AllocError, Global};
 
@@ -31,7 +31,7 @@ use std::alloc::{AllocError, Global};
 /// and the history.
 pub(crate) struct Board {
     pub(crate) store: Store,
-    pub(crate) view: LiveView,
+    pub(crate) view: KeptView,
     pub(crate) snapshot: Snapshot,
     pub(crate) touched: Touched,
     pub(crate) history: History,
@@ -63,7 +63,7 @@ impl Board {
     {
         Board {
             store: Store::new(alloc),
-            view: LiveView::new(alloc),
+            view: KeptView::new(alloc),
             snapshot: Snapshot::new(alloc),
             touched: Touched::new(alloc),
             history: History::new(alloc),
@@ -275,7 +275,7 @@ impl Board {
 fn take(
     alloc: Global,
     store: &mut Store,
-    view: &mut LiveView,
+    view: &mut KeptView,
     list: &[Element],
 ) -> Result<(), AllocError>
     requires rise { are_rising (ids_of store.old.elements) ≡ true }

@@ -11,7 +11,7 @@ ghost use Rattle.replica.specs.Boards.{IsPlanOf, IsPlannedStep};
 ghost use Rattle.replica.specs.Standing.{ReplicaStandsFor};
 ghost use Rattle.replica.specs.State as state;
 ghost use Rattle.replica.specs.State.{IsOutcome, State};
-ghost use Rattle.undoing.specs.Differing.{pending};
+ghost use Rattle.undo_model.specs.Differing.{pending};
 
 use crate::board::Board;
 use crate::planned::PlannedStep;
@@ -23,7 +23,7 @@ use elem::{Element, Stamp};
 use elem_store::Store;
 use history::{Direction, Step};
 use json_text::Text;
-use live_view::LiveView;
+use kept_view::KeptView;
 use reconcile::{Held, free_copies};
 use std::alloc::{AllocError, Global};
 use std::marker::Model;
@@ -242,7 +242,7 @@ impl Replica {
     }
 
     /// What it shows: always the view of what it stores. It takes no memory.
-    pub fn view(&self) -> &LiveView
+    pub fn view(&self) -> &KeptView
         ensures { result.now ≡ live_elements self.now.stored }
     {
         &self.board.view

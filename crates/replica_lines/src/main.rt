@@ -4,12 +4,12 @@
 ghost use Rattle.std.specs.Prelude.{◌≡◌, Err, OnOk};
 ghost use Rattle.std.specs.Process.{exit_status};
 ghost use Rattle.board_base.specs.declared.stop.Stop.{Stop};
-ghost use Rattle.intake.specs.declared.answering.LinesFault.{LinesFault};
+ghost use Rattle.input_texts.specs.declared.answering.LinesFault.{LinesFault};
 
 use board_base::Stop;
 use board_ends::{StdSink, StdSource, write_all};
-use intake::LinesFault;
-use live::answer_input;
+use input_texts::LinesFault;
+use line_replica::answer_input;
 use std::process::ExitCode;
 
 /// Answers the lines of standard input on standard output, to the end of the input. A fault is told

@@ -4,9 +4,9 @@ use Rattle.std.specs.List.{AllByRecursion, list_all}
 use Rattle.std.proofs.lemmas.Bool.{and_parts, cases_Bool}
 use Rattle.std.proofs.lemmas.Bool.Decides.{nat_tests}
 use Rattle.std.proofs.lemmas.List.Folds.{list_all-append}
-use Rattle.intake.specs.Lines.{is_within_line, lines_behind, lines_of}
+use Rattle.input_texts.specs.Lines.{is_within_line, lines_behind, lines_of}
 use Rattle.room_disk.specs.Records.{record_of, bytes_of}
-use Rattle.intake.proofs.CallerLemmas.{NoFeed, lines-append, ended-lines, ended-begun, stretch-lines}
+use Rattle.input_texts.proofs.CallerLemmas.{NoFeed, lines-append, ended-lines, ended-begun, stretch-lines}
 
 -- ---- two ways to cut bytes
 pub split : (xs ys left lost : List ℕ) → xs ++ ys ≡ left ++ lost → length xs ≤ length left → (mid : List ℕ)

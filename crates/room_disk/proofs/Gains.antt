@@ -3,7 +3,7 @@ use Rattle.std.proofs.Common.{◌≡◌, ℕ, ◌+◌, ◌≤◌, List, [], ◌�
 use Rattle.std.specs.Option.{option_map}
 use Rattle.std.proofs.lemmas.List.{length-append, take-append-drop}
 use Rattle.board_ends.specs.Ends.{SinkEnd, Took, KeepsSafe, IsSynced}
-use Rattle.intake.proofs.CallerLemmas.{took-more}
+use Rattle.input_texts.proofs.CallerLemmas.{took-more}
 use Rattle.room_disk.specs.Records.{bytes_of, record_of}
 use Rattle.room_disk.specs.Keeping.{HasGained, IsLeft}
 use Rattle.room_disk.specs.inner.KeptSteps.{IsSafeBy}

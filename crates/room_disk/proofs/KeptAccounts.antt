@@ -19,7 +19,7 @@ use Rattle.room_disk.specs.Records.{bytes_of, update_record}
 use Rattle.room_disk.specs.declared.keep_end.KeepEnd.{KeepEnd}
 use Rattle.room_disk.specs.declared.keep_end.KeepEnd.TheVariants.{AllClosed, Idle as IdleEnd, LinkFault, LinksFull, EventsFull, JournalFault, Memory}
 use Rattle.room_disk.specs.inner.KeptSteps.{IsKeptEvent, IsKeptOn, IsKeptStep, IsSafeBy, IsStoppedBy, IsStoppedEvent}
-use Rattle.intake.proofs.CallerLemmas.{took-none}
+use Rattle.input_texts.proofs.CallerLemmas.{took-none}
 use Rattle.room_disk.proofs.Gains.{all-behind, gained-all, gained-behind, safe-all, safe-records}
 use Rattle.room_disk.proofs.KeptEvents.{few_steps}
 

@@ -22,7 +22,7 @@ use Rattle.room_disk.specs.Records.{record_of, update_record}
 use Rattle.room_disk.specs.declared.keep_end.KeepEnd.{KeepEnd}
 use Rattle.room_disk.specs.declared.keep_end.KeepEnd.TheVariants.{AllClosed, Idle as IdleEnd, LinkFault, LinksFull, EventsFull, JournalFault, Memory}
 use Rattle.room_disk.specs.inner.KeptSteps.{IsKeptEvent, IsRecordStopped, IsSafeBy, IsStoppedEvent, count_with, kept_answers, message_bytes, record_bytes, sender_of}
-use Rattle.intake.proofs.CallerLemmas.{took-none}
+use Rattle.input_texts.proofs.CallerLemmas.{took-none}
 use Rattle.room_disk.proofs.Gains.{gained-all, safe-all, safe-less, safe-still}
 
 -- ---- the texts of two calls

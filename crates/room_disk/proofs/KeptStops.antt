@@ -19,7 +19,7 @@ use Rattle.room_core.specs.Told.{Try}
 use Rattle.room_core.specs.declared.limits.RoomLimits.{RoomLimits}
 use Rattle.scene_file.specs.Heads.{Heading}
 use Rattle.scene_file.specs.Scenes.{state_text}
-use Rattle.intake.specs.Lines.{lines_of}
+use Rattle.input_texts.specs.Lines.{lines_of}
 use Rattle.room_disk.specs.Keeping.{Account, Last, AreKeptRounds, EndsKept, HasGained, IsAccount, IsCutKept, IsLeft, IsStopAnswer, count_after, count_at, messages_heard, messages_in, messages_of, messages_told, told_last}
 use Rattle.room_disk.specs.Records.{bytes_of, opening_record, records_of, update_record}
 use Rattle.room_disk.specs.Recovering.{HasNoLine, Recovered, IsRecoveredAs, empty_head}

@@ -10,12 +10,12 @@ use Rattle.room_msg.specs.Texts.{message_text}
 use Rattle.room_msg.specs.declared.message.Message.TheVariants.{Update}
 use Rattle.scene_file.specs.Heads.{Heading}
 use Rattle.scene_file.specs.Scenes.{state_text}
-use Rattle.intake.specs.Lines.{lines_of}
+use Rattle.input_texts.specs.Lines.{lines_of}
 use Rattle.room_disk.specs.Records.{record_of, bytes_of, update_record, opening_record, records_of}
 use Rattle.room_disk.specs.Recovering.{AreKept, AreReadAs, IsRecoveredAs, Recovered, empty_head}
 use Rattle.room_disk.specs.Stops.{IsOpening, HasFirst, IsAnswerTo, IsAnswerAfter}
 use Rattle.room_disk.specs.declared.fault.KeepFault.{KeepFault}
-use Rattle.intake.proofs.CallerLemmas.{NoFeed}
+use Rattle.input_texts.proofs.CallerLemmas.{NoFeed}
 use Rattle.room_disk.proofs.Cuts.{IsCut, cut}
 use Rattle.room_disk.proofs.Once.{kept-answer}
 use Rattle.room_disk.proofs.Written.{AreReadBack, state-none, update-none, opening-read, updates-read}

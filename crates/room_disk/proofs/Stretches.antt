@@ -1,10 +1,10 @@
 -- A stretch of a stream up to a line feed, or without one.
 use Rattle.std.proofs.Common.{◌≡◌, ℕ, List, [], ◌∷◌, ◌++◌, flat_map, sym, ap, ap₂, ◌∙◌, subst}
-use Rattle.intake.specs.Lines.{AreLines, begun_of, lines_of}
+use Rattle.input_texts.specs.Lines.{AreLines, begun_of, lines_of}
 use Rattle.room_disk.specs.Recovering.{HasNoRecord}
 use Rattle.room_disk.specs.inner.UnderWay.{IsReadTo, StandsIn}
 use Rattle.room_disk.specs.declared.recovery.Recovery.{Recovery}
-use Rattle.intake.proofs.CallerLemmas.{NoFeed, stretch-lines, stretch-begun, ended-lines, ended-begun}
+use Rattle.input_texts.proofs.CallerLemmas.{NoFeed, stretch-lines, stretch-begun, ended-lines, ended-begun}
 
 -- where the stream stands behind them
 pub stands-on : (stream begun front : List ℕ) (recovery : Recovery) → NoFeed front → StandsIn stream begun recovery

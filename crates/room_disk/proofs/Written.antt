@@ -22,7 +22,7 @@ use Rattle.scene_file.specs.Whole.{IsWholeHead, HaveKeys}
 use Rattle.scene_file.proofs.CallerLemmas.{state-back}
 use Rattle.room_disk.specs.Records.{opening_record, update_record}
 use Rattle.room_disk.specs.Recovering.{IsSceneReadAs, AreUpdates}
-use Rattle.intake.proofs.CallerLemmas.{NoFeed, quote-none, compact-none, array-none, object-none}
+use Rattle.input_texts.proofs.CallerLemmas.{NoFeed, quote-none, compact-none, array-none, object-none}
 
 -- ---- no line feed
 pub elements-none : (elements : List ElementValue) → All IsWholeElement elements

@@ -12,7 +12,7 @@ use Rattle.scene_file.specs.Reading.{IsSceneOf, IsSceneFault}
 use Rattle.scene_file.specs.declared.fault.SceneFault.{SceneFault}
 use Rattle.scene_file.specs.declared.fault.SceneFault.TheVariants.{Json}
 use Rattle.scene_file.specs.declared.scene.Scene.{Scene}
-use Rattle.intake.specs.Lines.{lines_of}
+use Rattle.input_texts.specs.Lines.{lines_of}
 use Rattle.room_disk.specs.declared.fault.KeepFault.{KeepFault}
 use Rattle.room_disk.specs.declared.fault.KeepFault.TheVariants.{Line}
 use Rattle.room_disk.specs.declared.fault.LineFault.{LineFault}

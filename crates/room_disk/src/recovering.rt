@@ -13,7 +13,7 @@ use crate::recovery::Recovery;
 use board_base::Stop;
 use board_ends::{Failed, Source, empty_piece};
 use elem_store::Store;
-use intake::line_end;
+use input_texts::line_end;
 use scene_file::Head;
 use std::alloc::{AllocError, Global};
 
@@ -100,7 +100,7 @@ fn has_no_record(recovery: &Recovery, begun: &Vec<u8>) -> bool
     ensures some { result ≡ false → (bytes : Items ℕ)
         → StandsIn bytes begun.now.items recovery.now → ¬ HasNoRecord bytes }
 {
-    intake::laws::bytes_are_lines();
+    input_texts::laws::bytes_are_lines();
     if begun.is_empty() {
         return false;
     }

@@ -10,9 +10,9 @@ use Rattle.effects.specs.declared.refusal.Refusal.{Refusal}
 use Rattle.reconcile.specs.Ids.{AreStrictlySorted, free_elements}
 use Rattle.history.specs.Pairs.{StackStandsFor}
 use Rattle.history.specs.declared.planned.Direction.{Direction}
-use Rattle.undoing.specs.Carrying.{taken_all}
-use Rattle.undoing.specs.Differing.{pending}
-use Rattle.undoing.specs.Steps.{Turn}
+use Rattle.undo_model.specs.Carrying.{taken_all}
+use Rattle.undo_model.specs.Differing.{pending}
+use Rattle.undo_model.specs.Steps.{Turn}
 use Rattle.replica.specs.Standing.{ReplicaStandsFor, Kept}
 use Rattle.replica.specs.State.{State, captured, stored_with, outcome_on, after_outcome, after_change, after_delivery, turn_on, after_turn, after_turn_of}
 use Rattle.replica.proofs.CallerLemmas.{given-held, turn-held-of, noted-stored}

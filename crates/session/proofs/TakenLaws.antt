@@ -11,8 +11,8 @@ use Rattle.board_commands.specs.declared.command.Command.{Command}
 use Rattle.reconcile.specs.Ids.{free_elements}
 use Rattle.history.specs.declared.planned.Direction.{Direction}
 use Rattle.history.specs.declared.planned.Direction.TheVariants as directions
-use Rattle.undoing.specs.Carrying.{taken_all}
-use Rattle.undoing.proofs.CallerLemmas.{taken_all-stored}
+use Rattle.undo_model.specs.Carrying.{taken_all}
+use Rattle.undo_model.proofs.CallerLemmas.{taken_all-stored}
 use Rattle.replica.specs.State.{State, outcome_on, turn_on}
 use Rattle.session_text.specs.declared.event.Event.{Event}
 use Rattle.session_text.specs.declared.event.Event.TheVariants.{Change, Update, Deliver, Hold, Release, Undo, Redo}

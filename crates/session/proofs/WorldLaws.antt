@@ -13,7 +13,7 @@ use Rattle.session.specs.declared.seat.Seat.{Seat as KeptSeat}
 use Rattle.session.specs.declared.world.World.{World as Played}
 use Rattle.session.specs.declared.outcome.Outcome.{Outcome}
 use Rattle.session.specs.inner.Standing.{SeatStandsFor, SeatsStandFor, WorldStandsFor, IsActed, IsWorldAfter}
-use Rattle.drawn_words.specs.Words.{next_generator}
+use Rattle.session_random.specs.Words.{next_generator}
 use Rattle.session.specs.Worlds.{Seat, World, Act, fresh, acted, seat_at, after_act, after_seat, after_event, after_events, all_picked, picked, given_of, last_world, opened, with_refused, world_after}
 
 -- ---- two lists, place by place

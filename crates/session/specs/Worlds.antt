@@ -3,7 +3,7 @@
 use Rattle.std.specs.Prelude.{ℕ, ◌+◌, ◌*◌, List, [], ◌∷◌, ◌++◌, Option, Some, None, Result, Ok, Err, not, filter, flat_map, replicate, take, bytes_eq, option_to_list, slice_get, slice_index_or, slice_set}
 use Rattle.std.specs.Option.{option_map_or}
 use Rattle.rand_pcg.specs.Lcg.{Lcg}
-use Rattle.drawn_words.specs.Words.{generator_of, next_generator, next_word}
+use Rattle.session_random.specs.Words.{generator_of, next_generator, next_word}
 use Rattle.elem.specs.ElementValue.{ElementValue}
 use Rattle.delta.specs.Placed.{with_item}
 use Rattle.reconcile.specs.Ids.{free_elements}
@@ -15,7 +15,7 @@ use Rattle.effects.specs.declared.refusal.Refusal.{Refusal}
 use Rattle.effects.specs.declared.refusal.Refusal.TheVariants.{VersionFull}
 use Rattle.history.specs.declared.planned.Direction.{Direction}
 use Rattle.history.specs.declared.planned.Direction.TheVariants as directions
-use Rattle.undoing.specs.Steps.{Turn}
+use Rattle.undo_model.specs.Steps.{Turn}
 use Rattle.replica.specs.State.{State, nothing, outcome_on, after_change, after_delivery, turn_on, after_turn}
 use Rattle.session_text.specs.declared.session.Session.{Session}
 use Rattle.session_text.specs.declared.event.Event.{Event}

@@ -5,7 +5,7 @@ ghost use Rattle.elem.specs.Facts.{greatest_whole};
 ghost use Rattle.board_commands.specs.Limits.{IsWithinLimits};
 ghost use Rattle.session_text.specs.Facts.{IsAmong, IsEventWithinLimits};
 ghost use Rattle.session.specs.inner.Standing.{IsWorldAfter, IsNoted, SeatsStandFor, WorldStandsFor};
-ghost use Rattle.drawn_words.specs.Words.{next_generator, next_word};
+ghost use Rattle.session_random.specs.Words.{next_generator, next_word};
 ghost use Rattle.session.specs.Worlds.{after_event, after_turn_at, delivered, fresh, given_of, opened, opening_elements, with_refused};
 
 use crate::outcome::Outcome;
@@ -14,11 +14,11 @@ use crate::report::RefusedEvent;
 use crate::seat::Seat;
 use board_base::List;
 use board_commands::{Capture, Command};
-use drawn_words::{draw_word, generator_of};
 use elem::{Element, Stamp};
 use history::Direction;
 use json_text::Text;
 use rand_pcg::Pcg32;
+use session_random::{draw_word, generator_of};
 use session_text::{Event, Pick, Session};
 use std::alloc::{AllocError, Global};
 

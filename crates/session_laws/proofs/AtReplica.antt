@@ -17,9 +17,9 @@ use Rattle.effects.proofs.CallerLemmas.{given-seen}
 use Rattle.history.specs.Stacks.{chosen, other}
 use Rattle.history.specs.declared.planned.Direction.{Direction}
 use Rattle.history.specs.declared.planned.Direction.TheVariants as directions
-use Rattle.undoing.specs.Carrying.{taken_all}
-use Rattle.undoing.specs.Differing.{pending}
-use Rattle.undoing.specs.Steps.{Turn, step}
+use Rattle.undo_model.specs.Carrying.{taken_all}
+use Rattle.undo_model.specs.Differing.{pending}
+use Rattle.undo_model.specs.Steps.{Turn, step}
 use Rattle.replica.specs.Back.{Alters, IsStoredChange, changed, changed_all, AreChanges, AreTurns, Call, IsDone, turned_all}
 use Rattle.replica.specs.State.{State, noted, stored_with, outcome_on, after_outcome, after_delivery, entries, turn_on, after_turn_of, after_turn}
 use Rattle.replica.proofs.CallerLemmas.{empty-stays}

@@ -12,10 +12,10 @@ use Rattle.elem_store.specs.Updates.{element_of, ids_of}
 use Rattle.elem_store.proofs.CallerLemmas.{same_id, Contains-head, Contains-cases, find-Some, filter-Contains}
 use Rattle.delta.specs.Pairs.{Pair, pair_with, pairs_from, exchanged}
 use Rattle.delta.specs.Parts.{counted}
-use Rattle.undoing.specs.Differing.{is_changed, pending}
-use Rattle.undoing.specs.Entries.{pair_ids, IsGiven}
-use Rattle.undoing.specs.Steps.{is_seen, given_of, given, Sought, sought, Turn, step}
-use Rattle.undoing.proofs.CallerLemmas.{ids-from, pending-rise, given-each, step-turn, undone-stamp, ids-exchanged}
+use Rattle.undo_model.specs.Differing.{is_changed, pending}
+use Rattle.undo_model.specs.Entries.{pair_ids, IsGiven}
+use Rattle.undo_model.specs.Steps.{is_seen, given_of, given, Sought, sought, Turn, step}
+use Rattle.undo_model.proofs.CallerLemmas.{ids-from, pending-rise, given-each, step-turn, undone-stamp, ids-exchanged}
 use Rattle.frac_keys.proofs.CallerLemmas.{rise_between-lower}
 
 -- the pairs are of one id each, in the order of the ids; so are those of each entry of a stack

@@ -12,10 +12,10 @@ use Rattle.elem.specs.Said.{HasValidTexts, AreElements}
 use Rattle.elem_store.specs.Updates.{Taking, element_of, ids_of, is_taken, takings}
 use Rattle.elem_store.proofs.CallerLemmas.{same_elements}
 use Rattle.delta.specs.Pairs.{Pair}
-use Rattle.undoing.specs.Carrying.{with_put, taken, taken_all, followed, carried_over, carried, carried_all}
-use Rattle.undoing.specs.Differing.{same_kind}
-use Rattle.undoing.specs.Undoing.{undone}
-use Rattle.undoing.proofs.CallerLemmas.{same_kind-true, found-is, put-each, put-elements, taken_all-rising, carried_all-rising, carried-elements, carried-rising, undone-back}
+use Rattle.undo_model.specs.Carrying.{with_put, taken, taken_all, followed, carried_over, carried, carried_all}
+use Rattle.undo_model.specs.Differing.{same_kind}
+use Rattle.undo_model.specs.Undoing.{undone}
+use Rattle.undo_model.proofs.CallerLemmas.{same_kind-true, found-is, put-each, put-elements, taken_all-rising, carried_all-rising, carried-elements, carried-rising, undone-back}
 use Rattle.snapshot.proofs.CallerLemmas.{takings-more}
 use Rattle.replica.specs.Back.{IsCaptured}
 use Rattle.replica.specs.State.{State, carried_with}

@@ -16,10 +16,10 @@ use Rattle.effects.specs.declared.refusal.Refusal.{Refusal}
 use Rattle.effects.proofs.CallerLemmas.{created-nonce, given-rise, given-kind, given-cases}
 use Rattle.history.specs.declared.planned.Direction.{Direction}
 use Rattle.history.specs.declared.planned.Direction.TheVariants as directions
-use Rattle.undoing.specs.Carrying.{taken_all}
-use Rattle.undoing.specs.Differing.{pending}
-use Rattle.undoing.specs.Steps.{Turn}
-use Rattle.undoing.proofs.CallerLemmas.{taken_all-stored, taken_all-rising}
+use Rattle.undo_model.specs.Carrying.{taken_all}
+use Rattle.undo_model.specs.Differing.{pending}
+use Rattle.undo_model.specs.Steps.{Turn}
+use Rattle.undo_model.proofs.CallerLemmas.{taken_all-stored, taken_all-rising}
 use Rattle.replica.specs.State.{State, noted, captured, stored_with, after_outcome, outcome_on, turn_on, after_turn_of}
 use Rattle.session.specs.Worlds.{Seat, Act, fresh, delivered, acted, given_of, of_command, of_step, change_on, turn_by}
 use Rattle.session.proofs.CallerLemmas.{outcome-stored, turn-stored}

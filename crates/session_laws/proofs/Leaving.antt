@@ -13,13 +13,13 @@ use Rattle.delta.proofs.CallerLemmas.{scalars-same-but-stamp, item-member}
 use Rattle.history.specs.Stacks.{other}
 use Rattle.history.specs.declared.planned.Direction.{Direction}
 use Rattle.history.specs.declared.planned.Direction.TheVariants as directions
-use Rattle.undoing.specs.Carrying.{taken_all}
-use Rattle.undoing.specs.Differing.{differ}
-use Rattle.undoing.specs.Entries.{IsEntry, AreEntries, IsGiven}
-use Rattle.undoing.specs.Leaving.{Leaves, LeavesOthers, StepLeavesOthers}
-use Rattle.undoing.specs.Steps.{Turn, given, step}
-use Rattle.undoing.specs.Undoing.{undone}
-use Rattle.undoing.proofs.CallerLemmas.{differ-false, found-is, undone-leaves, given-each, given-all, given-rise, given-taken, step-turn, sought-entries, undone-stamp, undone-element, restamped}
+use Rattle.undo_model.specs.Carrying.{taken_all}
+use Rattle.undo_model.specs.Differing.{differ}
+use Rattle.undo_model.specs.Entries.{IsEntry, AreEntries, IsGiven}
+use Rattle.undo_model.specs.Leaving.{Leaves, LeavesOthers, StepLeavesOthers}
+use Rattle.undo_model.specs.Steps.{Turn, given, step}
+use Rattle.undo_model.specs.Undoing.{undone}
+use Rattle.undo_model.proofs.CallerLemmas.{differ-false, found-is, undone-leaves, given-each, given-all, given-rise, given-taken, step-turn, sought-entries, undone-stamp, undone-element, restamped}
 use Rattle.replica.specs.State.{State, captured, entries, turn_on, after_turn_of, after_turn}
 use Rattle.replica.proofs.CallerLemmas.{taken-at, taken-else}
 use Rattle.session_text.specs.Facts.{IsSession}

@@ -13,8 +13,8 @@ use Rattle.board_commands.specs.declared.command.Capture.{Capture}
 use Rattle.board_commands.specs.declared.command.Capture.TheVariants.{Now, Later, Never}
 use Rattle.board_commands.specs.declared.command.Command.{Command}
 use Rattle.effects.specs.declared.refusal.Refusal.{Refusal}
-use Rattle.undoing.specs.Differing.{pending}
-use Rattle.undoing.specs.Steps.{Turn}
+use Rattle.undo_model.specs.Differing.{pending}
+use Rattle.undo_model.specs.Steps.{Turn}
 use Rattle.history.specs.declared.planned.Direction.{Direction}
 use Rattle.history.specs.declared.planned.Direction.TheVariants as directions
 use Rattle.replica.specs.Back.{HasNothingPending, IsCaptured}

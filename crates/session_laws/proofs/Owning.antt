@@ -15,7 +15,7 @@ use Rattle.session_text.specs.declared.session.Session.{Session}
 use Rattle.session.specs.declared.report.Report.{Report}
 use Rattle.session.specs.Clashes.{HaveClashes}
 use Rattle.session.specs.Reports.{IsReportOf}
-use Rattle.drawn_words.specs.Words.{next_word}
+use Rattle.session_random.specs.Words.{next_word}
 use Rattle.clash.proofs.CallerLemmas.{AreAlike}
 use Rattle.session.specs.Worlds.{Seat, World, Act, fresh, delivered, holding, with_id, without_id, acted, given_of, change_on, turn_by, seat_at, state_at, nonce_at, all_picked, after_act, after_seat, after_event, after_events, opened, opening_elements, all_elements, world_after, last_world}
 use Rattle.session.proofs.CallerLemmas.{flat, clashes-same, flat-more}

@@ -22,11 +22,11 @@ use Rattle.board_commands.specs.Limits.{IsWithinLimits}
 use Rattle.effects.proofs.CallerLemmas.{absent, given-rise, given-taken, given-kind}
 use Rattle.history.specs.declared.planned.Direction.{Direction}
 use Rattle.history.specs.declared.planned.Direction.TheVariants as directions
-use Rattle.undoing.specs.Carrying.{taken_all}
-use Rattle.undoing.specs.Differing.{same_kind, is_changed, pending}
-use Rattle.undoing.specs.Entries.{IsEntry, AreEntries}
-use Rattle.undoing.specs.Steps.{given, Sought, sought, is_seen, Turn, made, step}
-use Rattle.undoing.proofs.CallerLemmas.{same_kind-true, found-is, pending-entry, given-each, step-turn, step-sound, taken_all-stored, taken_all-elements, taken_all-rising, takings-elements, carried_all-elements, carried_all-rising, undone-stamp}
+use Rattle.undo_model.specs.Carrying.{taken_all}
+use Rattle.undo_model.specs.Differing.{same_kind, is_changed, pending}
+use Rattle.undo_model.specs.Entries.{IsEntry, AreEntries}
+use Rattle.undo_model.specs.Steps.{given, Sought, sought, is_seen, Turn, made, step}
+use Rattle.undo_model.proofs.CallerLemmas.{same_kind-true, found-is, pending-entry, given-each, step-turn, step-sound, taken_all-stored, taken_all-elements, taken_all-rising, takings-elements, carried_all-elements, carried_all-rising, undone-stamp}
 use Rattle.snapshot.specs.Carried.{AreOfStoredKinds}
 use Rattle.snapshot.proofs.CallerLemmas.{kinds-carried_all, kinds-stored}
 use Rattle.replica.specs.Sound.{IsSoundState}

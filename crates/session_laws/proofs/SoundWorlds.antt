@@ -11,7 +11,7 @@ use Rattle.board_commands.specs.declared.command.Capture.{Capture}
 use Rattle.board_commands.specs.declared.command.Command.{Command}
 use Rattle.effects.specs.declared.refusal.Refusal.{Refusal}
 use Rattle.board_commands.specs.Limits.{IsWithinLimits}
-use Rattle.undoing.specs.Steps.{Turn}
+use Rattle.undo_model.specs.Steps.{Turn}
 use Rattle.elem_store.specs.Updates.{is_among}
 use Rattle.reconcile.specs.Ids.{free_elements}
 use Rattle.history.specs.declared.planned.Direction.{Direction}
@@ -25,7 +25,7 @@ use Rattle.session_text.specs.declared.event.Event.TheVariants.{Change, Update, 
 use Rattle.session_text.specs.declared.event.Pick.{Pick}
 use Rattle.session_text.specs.declared.event.Pick.TheVariants.{All as Whole, One}
 use Rattle.session_text.specs.declared.session.Session.{Session}
-use Rattle.drawn_words.proofs.CallerLemmas.{word-below}
+use Rattle.session_random.proofs.CallerLemmas.{word-below}
 use Rattle.session.specs.Worlds.{Seat, World, Act, fresh, delivered, holding, with_id, without_id, of_command, of_step, change_on, turn_by, given_of, acted, seat_at, state_at, nonce_at, after_act, after_seat, picked, all_picked, after_event, after_events, opening_elements, opened, world_after}
 use Rattle.board_commands.specs.Written.{IsWrittenCommand}
 use Rattle.session_laws.proofs.SoundStates.{IsKept, kept-sound, kept-nothing, change-kept, command-given, delivery-kept, after-kept, turn-of}

@@ -4,7 +4,7 @@ use Rattle.std.specs.List.{AllByRecursion}
 use Rattle.std.proofs.Math.Seq.{take-append_seam}
 use Rattle.elem.specs.ElementValue.{ElementValue}
 use Rattle.elem.specs.Order.{unstamped}
-use Rattle.undoing.specs.Differing.{pending}
+use Rattle.undo_model.specs.Differing.{pending}
 use Rattle.history.specs.declared.planned.Direction.TheVariants as directions
 use Rattle.replica.specs.Back.{IsAs, HasNothingPending, IsCaptured, IsFound, changed, changed_all, AreChanges, undone_all, redone_all, AreUndos, AreRedos}
 use Rattle.replica.specs.Sound.{IsSoundState}

@@ -8,7 +8,7 @@ use Rattle.board_commands.specs.declared.command.Command.{Command}
 use Rattle.history.specs.Stacks.{chosen}
 use Rattle.history.specs.declared.planned.Direction.{Direction}
 use Rattle.history.specs.declared.planned.Direction.TheVariants as directions
-use Rattle.undoing.specs.Steps.{Turn}
+use Rattle.undo_model.specs.Steps.{Turn}
 use Rattle.replica.specs.State.{turn_on}
 use Rattle.session_text.specs.declared.event.Event.{Event}
 use Rattle.session_text.specs.declared.event.Event.TheVariants.{Change, Update, Deliver, Hold, Release, Undo, Redo}

@@ -9,8 +9,8 @@ ghost use Rattle.replica.specs.Back.{HasNothingPending, IsAs, IsCaptured, IsFoun
 ghost use Rattle.replica.specs.Sound.{IsSoundState};
 ghost use Rattle.replica.specs.State.{after_redo, after_undo, captured, redo_on, undo_on};
 ghost use Rattle.scene_file.specs.Scenes.{scene_text};
-ghost use Rattle.undoing.specs.Leaving.{StepLeavesOthers};
-ghost use Rattle.undoing.specs.Steps.{Turn};
+ghost use Rattle.undo_model.specs.Leaving.{StepLeavesOthers};
+ghost use Rattle.undo_model.specs.Steps.{Turn};
 ghost use Rattle.view.specs.Settled.{AreSettled};
 ghost use Rattle.index_repair.specs.Keyed.{HaveRisingKeys};
 ghost use Rattle.session.specs.Reports.{shown_at};

@@ -23,9 +23,9 @@ use Rattle.delta.specs.Parts.{PartStandsFor}
 use Rattle.elem_store.specs.Places.{IsAt, IsGapFor}
 use Rattle.elem_store.specs.Updates.{element_of, ids_of}
 use Rattle.elem_store.proofs.CallerLemmas.{ids-set, is_taken-gap, HasTaken-insert, same_id, of_same, find-Some, some_within, member, earlier_less, less-less}
-use Rattle.undoing.specs.Carrying.{with_put}
-use Rattle.undoing.specs.Differing.{same_kind}
-use Rattle.undoing.specs.Undoing.{undone, undone_in}
+use Rattle.undo_model.specs.Carrying.{with_put}
+use Rattle.undo_model.specs.Differing.{same_kind}
+use Rattle.undo_model.specs.Undoing.{undone, undone_in}
 use Rattle.snapshot.specs.Carried.{IsCarried, HasCarried}
 use Rattle.snapshot.specs.inner.Carried.{HasPut, carried_to, with_made}
 use Rattle.snapshot.proofs.PutLaws.{HasPut-put}

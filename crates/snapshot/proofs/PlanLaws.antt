@@ -14,10 +14,10 @@ use Rattle.delta.specs.Delta.{Delta}
 use Rattle.delta.specs.Pairs.{Pair, pair_with, IsUnchanged, EntryStandsFor, IsSamePair, HasSamePairs}
 use Rattle.delta.specs.Parts.{counted}
 use Rattle.delta.proofs.CallerLemmas.{entry-unstamped, none-earlier, rising-front}
-use Rattle.undoing.specs.Carrying.{with_put, with_all_put, taken, taken_all, followed, carried_over, carried_all}
-use Rattle.undoing.specs.Differing.{same_kind}
-use Rattle.undoing.specs.Undoing.{undone}
-use Rattle.undoing.proofs.CallerLemmas.{taken-has, put-rising}
+use Rattle.undo_model.specs.Carrying.{with_put, with_all_put, taken, taken_all, followed, carried_over, carried_all}
+use Rattle.undo_model.specs.Differing.{same_kind}
+use Rattle.undo_model.specs.Undoing.{undone}
+use Rattle.undo_model.proofs.CallerLemmas.{taken-has, put-rising}
 use Rattle.snapshot.specs.inner.Carried.{carried_to, with_made}
 use Rattle.snapshot.specs.Pending.{pairs_since}
 use Rattle.snapshot.proofs.PutLaws.{put-below, put-there, all-rise, all-each, all-append, all-below, all-cover, taken_all-put}

@@ -9,8 +9,8 @@ use Rattle.elem.specs.ElementValue.{ElementValue}
 use Rattle.elem.specs.Order.{has_id}
 use Rattle.elem_store.specs.Updates.{element_of, ids_of, is_newer, is_taken}
 use Rattle.elem_store.proofs.CallerLemmas.{same_id, of_other, above, less-other, none_above, same_elements}
-use Rattle.undoing.specs.Carrying.{with_put, with_all_put, taken_all}
-use Rattle.undoing.proofs.CallerLemmas.{put-rising}
+use Rattle.undo_model.specs.Carrying.{with_put, with_all_put, taken_all}
+use Rattle.undo_model.proofs.CallerLemmas.{put-rising}
 use Rattle.snapshot.specs.inner.Carried.{HasPut}
 
 -- ---- one more

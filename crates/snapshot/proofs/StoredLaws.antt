@@ -13,10 +13,10 @@ use Rattle.elem_store.specs.Updates.{element_of, ids_of, is_taken, takings, Taki
 use Rattle.elem_store.proofs.CallerLemmas.{same_id, of_itself, Contains-cases, filter-Contains}
 use Rattle.delta.specs.Delta.{Delta}
 use Rattle.delta.specs.Pairs.{Pair, pair_with, IsPartOf, EntryStandsFor}
-use Rattle.undoing.specs.Carrying.{with_put, carried, carried_all, carried_over, taken, taken_all}
-use Rattle.undoing.specs.Differing.{same_kind, is_changed, pending}
-use Rattle.undoing.specs.Undoing.{undone, undone_in}
-use Rattle.undoing.proofs.CallerLemmas.{put-rising, same_kind-same}
+use Rattle.undo_model.specs.Carrying.{with_put, carried, carried_all, carried_over, taken, taken_all}
+use Rattle.undo_model.specs.Differing.{same_kind, is_changed, pending}
+use Rattle.undo_model.specs.Undoing.{undone, undone_in}
+use Rattle.undo_model.proofs.CallerLemmas.{put-rising, same_kind-same}
 use Rattle.snapshot.specs.Carried.{AreOfStoredKinds}
 use Rattle.snapshot.specs.inner.Carried.{carried_to, with_made}
 use Rattle.snapshot.specs.Pending.{pairs_since}

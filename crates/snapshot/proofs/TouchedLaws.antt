@@ -12,8 +12,8 @@ use Rattle.elem.specs.ElementValue.{ElementValue}
 use Rattle.elem.specs.Order.{has_id}
 use Rattle.elem_store.specs.Updates.{element_of, ids_of, is_taken, takings, Taking, is_among}
 use Rattle.elem_store.proofs.CallerLemmas.{same_id, same_elements, is_at-among, is_at-bytes}
-use Rattle.undoing.specs.Carrying.{with_put, with_all_put, taken, taken_all, carried, carried_over, carried_all}
-use Rattle.undoing.proofs.CallerLemmas.{put-rising}
+use Rattle.undo_model.specs.Carrying.{with_put, with_all_put, taken, taken_all, carried, carried_over, carried_all}
+use Rattle.undo_model.proofs.CallerLemmas.{put-rising}
 use Rattle.snapshot.specs.inner.Carried.{carried_to, with_made}
 use Rattle.snapshot.specs.Touched.{AreUntouched, StillTouches, HasTouched}
 use Rattle.snapshot.specs.inner.Touched.{IsTouched, HasPutStored}

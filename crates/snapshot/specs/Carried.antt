@@ -9,7 +9,7 @@ use Rattle.elem_store.specs.Updates.{element_of, ids_of}
 use Rattle.delta.specs.Delta.{Delta}
 use Rattle.delta.specs.Applied.{IsApplied}
 use Rattle.delta.specs.Parts.{PartStandsFor}
-use Rattle.undoing.specs.Differing.{same_kind}
+use Rattle.undo_model.specs.Differing.{same_kind}
 
 -- the element after the difference of two others was applied to it
 pub record IsLed (old new captured result : ElementValue) : Type 0 where

@@ -6,7 +6,7 @@ ghost use Rattle.std.specs.Cmp.Lexicographic.{slice_cmp};
 ghost use Rattle.frac_keys.specs.Rising.{are_rising};
 ghost use Rattle.elem_store.specs.Places.{IsAt, IsGapFor};
 ghost use Rattle.elem_store.specs.Updates.{element_of, ids_of};
-ghost use Rattle.undoing.specs.Carrying.{with_put, with_all_put};
+ghost use Rattle.undo_model.specs.Carrying.{with_put, with_all_put};
 ghost use Rattle.snapshot.specs.inner.Carried.{with_made};
 
 use elem::{Element, SharedElement};

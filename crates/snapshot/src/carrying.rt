@@ -6,8 +6,8 @@ ghost use Rattle.frac_keys.specs.Rising.{are_rising};
 ghost use Rattle.elem.specs.Facts.{IsElement};
 ghost use Rattle.elem_store.specs.Updates as updates;
 ghost use Rattle.elem_store.specs.Updates.{element_of, ids_of, is_taken, takings};
-ghost use Rattle.undoing.specs.Carrying.{with_put, with_all_put, carried_over, carried_all};
-ghost use Rattle.undoing.specs.Undoing.{undone};
+ghost use Rattle.undo_model.specs.Carrying.{with_put, with_all_put, carried_over, carried_all};
+ghost use Rattle.undo_model.specs.Undoing.{undone};
 ghost use Rattle.snapshot.specs.Carried.{IsCarried, HasCarried};
 ghost use Rattle.snapshot.specs.inner.Carried.{carried_to};
 

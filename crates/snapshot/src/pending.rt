@@ -6,7 +6,7 @@ ghost use Rattle.frac_keys.specs.Rising.{are_rising};
 ghost use Rattle.delta.specs.Facts.{part_ids};
 ghost use Rattle.delta.specs.Pairs.{Pair, IsChanged, IsUnchanged, EntryStandsFor, pair_with};
 ghost use Rattle.elem_store.specs.Updates as updates;
-ghost use Rattle.undoing.specs.Carrying.{with_put, with_all_put};
+ghost use Rattle.undo_model.specs.Carrying.{with_put, with_all_put};
 ghost use Rattle.snapshot.specs.Pending.{pairs_since};
 ghost use Rattle.snapshot.specs.Touched.{AreUntouched};
 ghost use Rattle.snapshot.specs.inner.Touched.{HasPutStored};

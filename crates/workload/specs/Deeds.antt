@@ -4,7 +4,7 @@ use Rattle.rand_pcg.specs.Lcg.{Lcg}
 use Rattle.board_commands.specs.declared.command.Capture.{Capture}
 use Rattle.board_commands.specs.declared.command.Capture.TheVariants as captures
 use Rattle.board_commands.specs.declared.command.Side.TheVariants as sides
-use Rattle.drawn_words.specs.Words.{generator_of}
+use Rattle.session_random.specs.Words.{generator_of}
 use Rattle.workload.specs.Draws.{drawn, after_draws}
 use Rattle.workload.specs.declared.deed.Deed.{Deed}
 use Rattle.workload.specs.declared.deed.Deed.TheVariants.{Change, Undo, Redo, Deliver}

@@ -1,7 +1,7 @@
 -- What is drawn for the events of a drill, from the generator of its seed. This project's own.
 use Rattle.std.specs.Prelude.{ℕ, ◌%◌}
 use Rattle.rand_pcg.specs.Lcg.{Lcg}
-use Rattle.drawn_words.specs.Words.{next_word, next_generator}
+use Rattle.session_random.specs.Words.{next_word, next_generator}
 use Rattle.workload.specs.declared.draws.Draws.{Draws}
 
 -- the next word modulo the limit

@@ -1,12 +1,12 @@
 //! What is drawn for the events.
 
 ghost use Rattle.std.specs.Prelude.{◌≡◌, ◌<◌, ◌%◌};
-ghost use Rattle.drawn_words.specs.Words.{next_generator, next_word};
+ghost use Rattle.session_random.specs.Words.{next_generator, next_word};
 ghost use Rattle.workload.specs.Draws.{after_draws, drawn};
 ghost use Rattle.workload.specs.inner.Draws.{IsDrawn};
 
-use drawn_words::draw_word;
 use rand_pcg::Pcg32;
+use session_random::draw_word;
 
 /// What is drawn for an event.
 #[derive(Clone, Copy)]

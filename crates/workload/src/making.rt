@@ -10,7 +10,7 @@ use crate::deed::{deed_of, messages_of};
 use crate::draws::draw_all;
 use crate::texts::{push_deed, push_delivery, push_header};
 use board_base::Bytes;
-use drawn_words::generator_of;
+use session_random::generator_of;
 use std::alloc::{AllocError, Global};
 
 /// The text of a session: four replicas, so many events that are drawn from the seed, and then a

@@ -4,9 +4,9 @@ use Rattle.json_text.specs.Compact.{Member as Pair}
 use Rattle.elem.specs.ElementValue.{ElementValue}
 use Rattle.elem_store.specs.Updates.{AreStored}
 use Rattle.file_table.specs.Table.{AreLeastEntries}
-use Rattle.intake.specs.Texts.{Reading}
-use Rattle.intake.specs.declared.reading.Stopped.{Stopped}
-use Rattle.intake.specs.declared.reading.Stopped.TheVariants.{Faulty, Refused, Extra}
+use Rattle.input_texts.specs.Texts.{Reading}
+use Rattle.input_texts.specs.declared.reading.Stopped.{Stopped}
+use Rattle.input_texts.specs.declared.reading.Stopped.TheVariants.{Faulty, Refused, Extra}
 use Rattle.scene_file.specs.Heads.{Heading, least_source, settings_of, files_of}
 use Rattle.scene_file.specs.Reading.{IsSceneOf, IsSceneFault}
 use Rattle.commands.specs.Boards.{heads_of, updates_of}

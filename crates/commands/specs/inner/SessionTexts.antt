@@ -1,8 +1,8 @@
 -- What the reader of a session has read. This project's own.
 use Rattle.std.specs.Prelude.{◌≡◌, ℕ, ◌+◌, ◌≤◌, List, [], ◌∷◌, false, Option, Some, None, is_none, Ok, length}
-use Rattle.intake.specs.Texts.{Reading}
-use Rattle.intake.specs.declared.reading.Stopped.{Stopped}
-use Rattle.intake.specs.declared.reading.Stopped.TheVariants.{Faulty, Refused, Extra}
+use Rattle.input_texts.specs.Texts.{Reading}
+use Rattle.input_texts.specs.declared.reading.Stopped.{Stopped}
+use Rattle.input_texts.specs.declared.reading.Stopped.TheVariants.{Faulty, Refused, Extra}
 use Rattle.session_text.specs.Events.{HeaderText, EventText, header}
 use Rattle.session_text.specs.Sessions.{messages_of, most_events}
 use Rattle.session_text.specs.Taken.{IsNextFault, is_full}

@@ -2,9 +2,9 @@
 -- own.
 -- Only this crate's own bodies and proofs need it.
 use Rattle.std.specs.Prelude.{◌≡◌, ℕ, ◌+◌, ◌==◌, List, false, length}
-use Rattle.intake.specs.Texts.{Reading}
-use Rattle.intake.specs.declared.reading.Stopped.{Stopped}
-use Rattle.intake.specs.declared.reading.Stopped.TheVariants.{Faulty, Refused, Extra}
+use Rattle.input_texts.specs.Texts.{Reading}
+use Rattle.input_texts.specs.declared.reading.Stopped.{Stopped}
+use Rattle.input_texts.specs.declared.reading.Stopped.TheVariants.{Faulty, Refused, Extra}
 use Rattle.library.specs.Best.{AreBest}
 use Rattle.library.specs.Libraries.{HaveItems}
 use Rattle.library.specs.Reading.{IsLibFault}

@@ -15,8 +15,8 @@ use Rattle.history.specs.Stacks.{Stacks, StopsAt, noted, side}
 use Rattle.history.specs.declared.planned.Direction.{Direction}
 use Rattle.history.specs.declared.step.Step.{Step}
 use Rattle.history.specs.declared.step.Step.TheVariants.{Done, Nothing}
-use Rattle.undoing.specs.Carrying.{taken_all, carried_all}
-use Rattle.undoing.specs.Differing.{pending}
+use Rattle.undo_model.specs.Carrying.{taken_all, carried_all}
+use Rattle.undo_model.specs.Differing.{pending}
 use Rattle.replica.specs.Boards.{Told, StacksComeBy}
 
 -- The ids of changed elements rise, and each of them becomes stored.

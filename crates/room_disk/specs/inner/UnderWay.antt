@@ -5,7 +5,7 @@ use Rattle.elem_store.specs.Updates.{AreStored}
 use Rattle.room_msg.specs.Messages.{IsReadAs}
 use Rattle.room_msg.specs.declared.message.Message.TheVariants.{Update}
 use Rattle.scene_file.specs.Heads.{Heading}
-use Rattle.intake.specs.Lines.{lines_of, begun_of}
+use Rattle.input_texts.specs.Lines.{lines_of, begun_of}
 use Rattle.room_disk.specs.Recovering.{AreReadAs, AreKept}
 use Rattle.room_disk.specs.declared.fault.KeepFault.{KeepFault}
 use Rattle.room_disk.specs.declared.recovery.Recovery.{Recovery}

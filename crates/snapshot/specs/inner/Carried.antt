@@ -7,9 +7,9 @@ use Rattle.frac_keys.specs.Rising.{are_rising}
 use Rattle.elem.specs.ElementValue.{ElementValue}
 use Rattle.elem.specs.Order.{has_id}
 use Rattle.elem_store.specs.Updates.{element_of, ids_of}
-use Rattle.undoing.specs.Carrying.{with_put}
-use Rattle.undoing.specs.Differing.{same_kind}
-use Rattle.undoing.specs.Undoing.{undone}
+use Rattle.undo_model.specs.Carrying.{with_put}
+use Rattle.undo_model.specs.Differing.{same_kind}
+use Rattle.undo_model.specs.Undoing.{undone}
 
 -- The element is the one of its id, and the others stay.
 pub record HasPut (before : List ElementValue) (e : ElementValue)

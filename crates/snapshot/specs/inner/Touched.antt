@@ -3,7 +3,7 @@
 use Rattle.std.specs.Prelude.{◌≡◌, ◌⊎◌, ℕ, List, false, Option, Some, None, bytes_eq}
 use Rattle.elem.specs.ElementValue.{ElementValue}
 use Rattle.elem_store.specs.Updates.{is_among}
-use Rattle.undoing.specs.Carrying.{with_put}
+use Rattle.undo_model.specs.Carrying.{with_put}
 use Rattle.snapshot.specs.Touched.{StillTouches}
 
 -- No new id is touched but this one; none is but those of these elements.

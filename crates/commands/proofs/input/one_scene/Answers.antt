@@ -1,6 +1,6 @@
 use Rattle.std.proofs.Common.{◌≡◌, [], ◌∷◌, sym, subst, Some, ◌∙◌}
 use Rattle.std.proofs.lemmas.Result.{err_from_is_err_and}
-use Rattle.intake.specs.Texts.{AreRead, HasTexts}
+use Rattle.input_texts.specs.Texts.{AreRead, HasTexts}
 use Rattle.commands.specs.Answers.{IsOneRefusal}
 use Rattle.commands.specs.Input.{HasScenes}
 use Rattle.commands.specs.inner.Readers.{one_seen}

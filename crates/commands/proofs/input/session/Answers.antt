@@ -1,6 +1,6 @@
 use Rattle.std.proofs.Common.{◌≡◌, ◌+◌, sym, ap, subst, Some, ◌∙◌}
 use Rattle.std.proofs.lemmas.Result.{err_from_is_err_and}
-use Rattle.intake.specs.Texts.{AreRead, HasTexts}
+use Rattle.input_texts.specs.Texts.{AreRead, HasTexts}
 use Rattle.session_text.specs.Taken.{texts_in}
 use Rattle.commands.specs.Answers.{IsSessionRefusal}
 use Rattle.commands.specs.inner.SessionTexts.{session_refusal_of, session_seen}

@@ -1,6 +1,6 @@
 use Rattle.std.proofs.Common.{List, sym, subst}
 use Rattle.std.proofs.lemmas.Result.{err_from_is_err_and}
-use Rattle.intake.specs.Texts.{AreRead}
+use Rattle.input_texts.specs.Texts.{AreRead}
 use Rattle.commands.specs.Answers.{IsRefusal}
 use Rattle.commands.specs.Boards.{IsBoardOf}
 use Rattle.commands.specs.Input.{HasScenes}

@@ -1,6 +1,6 @@
 use Rattle.std.proofs.Common.{List, ℕ, sym, subst}
 use Rattle.std.proofs.lemmas.Result.{err_from_is_err_and}
-use Rattle.intake.specs.Texts.{AreRead}
+use Rattle.input_texts.specs.Texts.{AreRead}
 use Rattle.library.specs.Best.{AreBest}
 use Rattle.library.specs.Libraries.{HaveItems}
 use Rattle.library.specs.declared.item.Item.{Item}

@@ -1,4 +1,4 @@
-use Rattle.intake.specs.Lines.{lines_of}
+use Rattle.input_texts.specs.Lines.{lines_of}
 use Rattle.room_disk.proofs.WholeLaws.{kept-whole}
 use Rattle.room_disk.proofs.laws.recovered_is_whole.Goals as goal
 

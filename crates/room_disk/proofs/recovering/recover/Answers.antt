@@ -2,7 +2,7 @@ use Rattle.std.proofs.Common.{ℕ, List, Ok}
 use Rattle.board_ends.specs.Ends.{Gave}
 use Rattle.elem_store.specs.Stock.{Held}
 use Rattle.scene_file.specs.Heads.{Heading}
-use Rattle.intake.specs.Lines.{lines_of}
+use Rattle.input_texts.specs.Lines.{lines_of}
 use Rattle.room_disk.specs.Recovering.{AreReadAs, AreKept}
 use Rattle.room_disk.specs.inner.UnderWay.{IsReadTo}
 use Rattle.room_disk.proofs.Taking.{if-then}

@@ -1,4 +1,4 @@
-use Rattle.intake.specs.Lines.{lines_of}
+use Rattle.input_texts.specs.Lines.{lines_of}
 use Rattle.room_disk.proofs.recovering.recover_records.Goals as goal
 
 pub returns-clause-recovered : goal.returns-clause-recovered

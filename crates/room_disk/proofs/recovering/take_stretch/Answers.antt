@@ -1,6 +1,6 @@
 use Rattle.std.proofs.Common.{◌≡◌, ◌<◌, ◌∷◌, [], ◌++◌, length, take, ap, ◌∙◌, subst, arith}
 use Rattle.room_disk.specs.inner.UnderWay.{IsReadTo}
-use Rattle.intake.proofs.CallerLemmas.{front-none, front-ended}
+use Rattle.input_texts.proofs.CallerLemmas.{front-none, front-ended}
 use Rattle.room_disk.proofs.Stretches.{stands-on, stands-behind}
 use Rattle.room_disk.proofs.recovering.take_stretch.Goals as goal
 

@@ -2,7 +2,7 @@
 use Rattle.std.proofs.Common.{◌++◌, [], ◌∷◌, length, sym, ap, ◌∙◌, append_assoc, arith}
 use Rattle.frac_keys.specs.Rising.{are_rising}
 use Rattle.elem_store.specs.Updates.{ids_of}
-use Rattle.undoing.specs.Carrying.{with_put}
+use Rattle.undo_model.specs.Carrying.{with_put}
 use Rattle.snapshot.proofs.PutLaws.{all-rise, all-append}
 use Rattle.snapshot.proofs.captured.put_all.Goals as goal
 

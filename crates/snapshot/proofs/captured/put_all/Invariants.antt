@@ -1,6 +1,6 @@
 -- Those so far are put, and there is room for the others.
 use Rattle.std.proofs.Common.{◌≡◌, ◌+◌, ◌≤◌, ◌++◌, length, vec_len, vec_capacity}
-use Rattle.undoing.specs.Carrying.{with_all_put}
+use Rattle.undo_model.specs.Carrying.{with_all_put}
 use Rattle.snapshot.proofs.captured.put_all.Given as goal
 
 abbrev pub invariant-loop-e : goal.invariant-loop-e

@@ -4,7 +4,7 @@ use Rattle.std.proofs.lemmas.List.{take_more}
 use Rattle.frac_keys.specs.Rising.{are_rising}
 use Rattle.elem.specs.ElementValue.{ElementValue}
 use Rattle.elem_store.specs.Updates.{ids_of}
-use Rattle.undoing.specs.Carrying.{with_put, with_all_put}
+use Rattle.undo_model.specs.Carrying.{with_put, with_all_put}
 use Rattle.snapshot.proofs.PutLaws.{all-rise, all-append}
 use Rattle.snapshot.proofs.captured.put_copies.Goals as goal
 

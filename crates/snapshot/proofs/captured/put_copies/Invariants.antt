@@ -1,6 +1,6 @@
 -- The first ones are put.
 use Rattle.std.proofs.Common.{◌≡◌, take}
-use Rattle.undoing.specs.Carrying.{with_all_put}
+use Rattle.undo_model.specs.Carrying.{with_all_put}
 use Rattle.snapshot.proofs.captured.put_copies.Given as goal
 
 abbrev pub invariant-loop-e : goal.invariant-loop-e

@@ -3,7 +3,7 @@ use Rattle.std.proofs.Common.{◌≡◌, option_copied, sym, ap, ◌∙◌, subs
 use Rattle.elem.specs.ElementValue.{ElementValue}
 use Rattle.elem_store.specs.Updates.{element_of}
 use Rattle.delta.proofs.CallerLemmas.{OnOk-weaker}
-use Rattle.undoing.specs.Carrying.{carried_over}
+use Rattle.undo_model.specs.Carrying.{carried_over}
 use Rattle.snapshot.specs.Carried.{IsCarried, HasCarried}
 use Rattle.snapshot.specs.inner.Carried.{carried_to, with_made}
 use Rattle.snapshot.proofs.CapturedLaws.{found-id, HasCarried-made}

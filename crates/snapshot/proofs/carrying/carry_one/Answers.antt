@@ -4,7 +4,7 @@ use Rattle.frac_keys.specs.Rising.{are_rising}
 use Rattle.elem.specs.ElementValue.{ElementValue}
 use Rattle.elem_store.specs.Updates.{element_of, ids_of, is_newer, is_taken}
 use Rattle.delta.proofs.CallerLemmas.{OnOk-weaker}
-use Rattle.undoing.specs.Carrying.{with_put, with_all_put, carried_over}
+use Rattle.undo_model.specs.Carrying.{with_put, with_all_put, carried_over}
 use Rattle.snapshot.specs.inner.Carried.{carried_to}
 use Rattle.snapshot.proofs.CapturedLaws.{found-id}
 use Rattle.snapshot.proofs.PlanLaws.{carried-step, made-rises}

@@ -3,7 +3,7 @@ use Rattle.std.proofs.Common.{◌≡◌, suc, ◌+◌, ◌<◌, ◌∷◌, lengt
 use Rattle.std.proofs.Math.Seq.{drop-cons}
 use Rattle.elem.specs.ElementValue.{ElementValue}
 use Rattle.elem_store.specs.Updates.{takings}
-use Rattle.undoing.specs.Carrying.{with_all_put, carried_all}
+use Rattle.undo_model.specs.Carrying.{with_all_put, carried_all}
 use Rattle.snapshot.proofs.PlanLaws.{carry-more}
 use Rattle.snapshot.proofs.carrying.carrying.Goals as goal
 

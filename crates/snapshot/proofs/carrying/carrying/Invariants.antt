@@ -3,7 +3,7 @@
 use Rattle.std.proofs.Common.{◌≡◌, true, drop}
 use Rattle.frac_keys.specs.Rising.{are_rising}
 use Rattle.elem_store.specs.Updates.{ids_of, takings}
-use Rattle.undoing.specs.Carrying.{with_all_put, carried_all}
+use Rattle.undo_model.specs.Carrying.{with_all_put, carried_all}
 use Rattle.snapshot.proofs.carrying.carrying.Given as goal
 
 abbrev pub invariant-loop-e : goal.invariant-loop-e

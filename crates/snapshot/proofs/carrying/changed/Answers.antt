@@ -4,9 +4,9 @@ use Rattle.std.specs.Option.{option_map}
 use Rattle.std.proofs.lemmas.Bool.{cond-false, false_from_ne_true, false≢true}
 use Rattle.elem.specs.ElementValue.{ElementValue}
 use Rattle.elem.specs.Facts.{IsElement}
-use Rattle.undoing.specs.Differing.{same_kind}
-use Rattle.undoing.specs.Undoing.{undone}
-use Rattle.undoing.proofs.CallerLemmas.{same_kind-true}
+use Rattle.undo_model.specs.Differing.{same_kind}
+use Rattle.undo_model.specs.Undoing.{undone}
+use Rattle.undo_model.proofs.CallerLemmas.{same_kind-true}
 use Rattle.snapshot.proofs.carrying.changed.Goals as goal
 
 pub follow-requires-clause-elements : goal.follow-requires-clause-elements

@@ -1,8 +1,8 @@
 -- The captured element that takes the difference over is the undone one.
 use Rattle.std.proofs.Common.{Some, option_copied, sym, ap, ◌∙◌}
 use Rattle.std.specs.Option.{option_map}
-use Rattle.undoing.specs.Undoing.{undone}
-use Rattle.undoing.proofs.CallerLemmas.{follows-undone}
+use Rattle.undo_model.specs.Undoing.{undone}
+use Rattle.undo_model.proofs.CallerLemmas.{follows-undone}
 use Rattle.snapshot.proofs.carrying.follow.Goals as goal
 
 pub returns-clause-to : goal.returns-clause-to

@@ -1,6 +1,6 @@
 -- What is stored of each id is put in its turn, or is there already.
 use Rattle.std.proofs.Common.{option_copied, sym, ap, ◌∙◌}
-use Rattle.undoing.specs.Carrying.{with_all_put}
+use Rattle.undo_model.specs.Carrying.{with_all_put}
 use Rattle.snapshot.proofs.TouchedLaws.{all_found, found-over, found-ordered, found-found, found-all}
 use Rattle.snapshot.proofs.pending.differing.Goals as goal
 

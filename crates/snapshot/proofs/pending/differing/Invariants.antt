@@ -2,7 +2,7 @@
 use Rattle.std.proofs.Common.{◌≡◌, true}
 use Rattle.frac_keys.specs.Rising.{are_rising}
 use Rattle.elem_store.specs.Updates.{ids_of}
-use Rattle.undoing.specs.Carrying.{with_all_put}
+use Rattle.undo_model.specs.Carrying.{with_all_put}
 use Rattle.snapshot.proofs.TouchedLaws.{all_found, AreFound}
 use Rattle.snapshot.proofs.pending.differing.Given as goal
 

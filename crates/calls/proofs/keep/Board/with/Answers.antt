@@ -5,8 +5,8 @@ use Rattle.frac_keys.specs.Rising.{are_rising}
 use Rattle.elem.specs.ElementValue.{ElementValue}
 use Rattle.elem.specs.Order.{has_id}
 use Rattle.elem_store.specs.Updates.{element_of, ids_of, is_taken, HasTaken}
-use Rattle.live_view.specs.Changes.{AreSameButAt}
-use Rattle.live_view.proofs.CallerLemmas.{if_live, element-live}
+use Rattle.kept_view.specs.Changes.{AreSameButAt}
+use Rattle.kept_view.proofs.CallerLemmas.{if_live, element-live}
 use Rattle.view.specs.Shown.{live_elements}
 use Rattle.calls.proofs.keep.Board.with.Goals as goal
 

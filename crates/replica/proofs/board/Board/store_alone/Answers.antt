@@ -1,6 +1,6 @@
 -- The ids of the updates are touched.
 use Rattle.std.proofs.Common.{refl}
-use Rattle.undoing.specs.Carrying.{taken_all}
+use Rattle.undo_model.specs.Carrying.{taken_all}
 use Rattle.snapshot.proofs.CallerLemmas.{untouched-grown, untouched-taken}
 use Rattle.replica.proofs.TouchingLaws.{either-way, kept-untouched}
 use Rattle.replica.proofs.board.Board.store_alone.Goals as goal

@@ -1,6 +1,6 @@
 use Rattle.std.proofs.Common.{sym, ap, ◌∙◌}
 use Rattle.history.specs.Stacks.{noted}
-use Rattle.undoing.specs.Carrying.{with_all_put}
+use Rattle.undo_model.specs.Carrying.{with_all_put}
 use Rattle.snapshot.proofs.CallerLemmas.{captured-untouched}
 use Rattle.replica.proofs.board.Board.store_captured.Goals as goal
 

@@ -1,6 +1,6 @@
 use Rattle.std.proofs.Common.{ap, ◌∙◌, refl}
 use Rattle.elem_store.specs.Updates.{takings}
-use Rattle.undoing.specs.Carrying.{with_all_put, taken_all, carried_all}
+use Rattle.undo_model.specs.Carrying.{with_all_put, taken_all, carried_all}
 use Rattle.snapshot.proofs.CallerLemmas.{untouched-carried}
 use Rattle.replica.proofs.TouchingLaws.{kept-untouched}
 use Rattle.replica.proofs.board.Board.store_carried.Goals as goal

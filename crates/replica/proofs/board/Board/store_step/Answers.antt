@@ -1,6 +1,6 @@
 -- The snapshot is what is stored then.
 use Rattle.std.proofs.Common.{sym, ap, ◌∙◌}
-use Rattle.undoing.specs.Carrying.{with_all_put}
+use Rattle.undo_model.specs.Carrying.{with_all_put}
 use Rattle.snapshot.proofs.CallerLemmas.{captured-untouched}
 use Rattle.replica.proofs.board.Board.store_step.Goals as goal
 

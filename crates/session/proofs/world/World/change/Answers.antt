@@ -1,7 +1,7 @@
 use Rattle.std.proofs.Common.{◌+◌, ◌*◌, ap, ◌∙◌, subst}
 use Rattle.rand_pcg.specs.Lcg.{Lcg}
 use Rattle.session.specs.inner.Standing.{IsActed}
-use Rattle.drawn_words.specs.Words.{next_word}
+use Rattle.session_random.specs.Words.{next_word}
 use Rattle.session.specs.Worlds.{change_on, nonce_at, seat_at, state_at}
 use Rattle.session.proofs.WorldLaws.{act-after, seat-stands}
 use Rattle.session.proofs.world.World.change.Goals as goal

@@ -4,8 +4,8 @@ use Rattle.frac_keys.specs.Rising.{are_rising}
 use Rattle.elem_store.specs.Stock.{Stock}
 use Rattle.elem_store.specs.Updates.{element_of, ids_of, is_among}
 use Rattle.delta.specs.Pairs.{EntryStandsFor}
-use Rattle.undoing.specs.Carrying.{with_all_put, taken_all}
-use Rattle.undoing.proofs.CallerLemmas.{pending-stands, taken_all-elements}
+use Rattle.undo_model.specs.Carrying.{with_all_put, taken_all}
+use Rattle.undo_model.proofs.CallerLemmas.{pending-stands, taken_all-elements}
 use Rattle.snapshot.specs.Pending.{pairs_since}
 use Rattle.snapshot.proofs.PutLaws.{all-rise}
 use Rattle.snapshot.proofs.PlanLaws.{plan-step, stands-over}

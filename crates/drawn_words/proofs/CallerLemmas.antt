@@ -1,2 +1,0 @@
--- The lemmas that crates above cite; nothing else of this folder is cited there.
-pub use Rattle.drawn_words.proofs.WordLaws.{word-below}

@@ -1,8 +1,0 @@
-use Rattle.live.proofs.Once.{all-once, answers-once}
-use Rattle.live.proofs.laws.answers_are_unique.Goals as goal
-
-pub returns-clause-one : goal.returns-clause-one
-returns-clause-one c = answers-once
-
-pub returns-clause-all : goal.returns-clause-all
-returns-clause-all c = all-once

@@ -1,5 +1,0 @@
-use Rattle.live.proofs.Exists.{answer-exists}
-use Rattle.live.proofs.laws.answers_exist.Goals as goal
-
-pub returns : goal.returns
-returns c = answer-exists c.reading_exists.ensures

@@ -1,5 +1,0 @@
-use Rattle.live.proofs.Turned.{repeats}
-use Rattle.live.proofs.laws.redo_repeats.Goals as goal
-
-pub returns : goal.returns
-returns c = repeats c.read_messages_are_whole.ensures c.redo_repeats.ensures.again

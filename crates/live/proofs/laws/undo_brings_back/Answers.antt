@@ -1,5 +1,0 @@
-use Rattle.live.proofs.Turned.{brings-back}
-use Rattle.live.proofs.laws.undo_brings_back.Goals as goal
-
-pub returns : goal.returns
-returns c = brings-back c.read_messages_are_whole.ensures c.undo_brings_back.ensures.back

@@ -1,6 +1,0 @@
-use Rattle.std.proofs.Common.{take}
-use Rattle.live_view.specs.inner.Reached.{AreStartedBy}
-use Rattle.live_view.proofs.reach.started_by.Given as goal
-
-abbrev pub invariant-loop-e : goal.invariant-loop-e
-invariant-loop-e l = AreStartedBy l.ids.list.items (take l.e-index l.elements)

@@ -1,9 +1,0 @@
-use Rattle.std.proofs.Common.{◌≡◌, All, take}
-use Rattle.live_view.specs.inner.Putting.{puts_of, IsInPlace}
-use Rattle.live_view.proofs.replacing.held_puts.Given as goal
-
-abbrev pub invariant-loop-e : goal.invariant-loop-e
-invariant-loop-e l = record {
-  are : puts_of l.puts.items ≡ take l.e-index l.news.items;
-  placed : All (IsInPlace l.live.items) l.puts.items;
-}

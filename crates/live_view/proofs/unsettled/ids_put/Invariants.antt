@@ -1,6 +1,0 @@
-use Rattle.std.proofs.Common.{◌≡◌, take}
-use Rattle.live_view.specs.inner.Unsettled.{put_ids}
-use Rattle.live_view.proofs.unsettled.ids_put.Given as goal
-
-abbrev pub invariant-loop-put : goal.invariant-loop-put
-invariant-loop-put l = l.ids.items ≡ put_ids (take l.put-index l.puts.items)

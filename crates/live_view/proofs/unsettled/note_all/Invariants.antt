@@ -1,9 +1,0 @@
-use Rattle.std.proofs.Common.{take}
-use Rattle.live_view.specs.inner.Unsettled.{HaveNoted, StillHave}
-use Rattle.live_view.proofs.unsettled.note_all.Given as goal
-
-abbrev pub invariant-loop-id : goal.invariant-loop-id
-invariant-loop-id l = record {
-  kept : StillHave l.initial.unsettled l.unsettled;
-  noted : HaveNoted (take l.id-index l.ids.items) l.unsettled;
-}

@@ -1,6 +1,0 @@
-use Rattle.live_view.specs.inner.Unsettled.{AreNoted}
-use Rattle.live_view.proofs.unsettled.settle_all.Given as goal
-
-abbrev pub invariant-loop-id : goal.invariant-loop-id
-invariant-loop-id l = AreNoted l.initial.unsettled l.live.items l.shown.items
-    → AreNoted l.unsettled l.live.items l.shown.items

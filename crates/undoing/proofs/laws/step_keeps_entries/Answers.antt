@@ -1,8 +1,0 @@
-use Rattle.undoing.proofs.StepLaws.{exchanged-entry, step-sound}
-use Rattle.undoing.proofs.laws.step_keeps_entries.Goals as goal
-
-pub returns-clause-exchanged : goal.returns-clause-exchanged
-returns-clause-exchanged c = exchanged-entry
-
-pub returns-clause-step : goal.returns-clause-step
-returns-clause-step c = step-sound
