@@ -58,20 +58,20 @@ impl Kind {
     pub fn try_clone(&self) -> Result<Kind, AllocError>
         ensures { IfOk result (λ copy. copy ≡ self.now) }
     {
-        Ok(match self {
-            Kind::Rectangle => Kind::Rectangle,
-            Kind::Diamond => Kind::Diamond,
-            Kind::Ellipse => Kind::Ellipse,
-            Kind::Arrow => Kind::Arrow,
-            Kind::Line => Kind::Line,
-            Kind::Freedraw => Kind::Freedraw,
-            Kind::Text => Kind::Text,
-            Kind::Image => Kind::Image,
-            Kind::Frame => Kind::Frame,
-            Kind::Magicframe => Kind::Magicframe,
-            Kind::Iframe => Kind::Iframe,
-            Kind::Embeddable => Kind::Embeddable,
-            Kind::Other(name) => Kind::Other(name.try_clone()?),
-        })
+        match self {
+            Kind::Rectangle => Ok(Kind::Rectangle),
+            Kind::Diamond => Ok(Kind::Diamond),
+            Kind::Ellipse => Ok(Kind::Ellipse),
+            Kind::Arrow => Ok(Kind::Arrow),
+            Kind::Line => Ok(Kind::Line),
+            Kind::Freedraw => Ok(Kind::Freedraw),
+            Kind::Text => Ok(Kind::Text),
+            Kind::Image => Ok(Kind::Image),
+            Kind::Frame => Ok(Kind::Frame),
+            Kind::Magicframe => Ok(Kind::Magicframe),
+            Kind::Iframe => Ok(Kind::Iframe),
+            Kind::Embeddable => Ok(Kind::Embeddable),
+            Kind::Other(name) => Ok(Kind::Other(name.try_clone()?)),
+        }
     }
 }

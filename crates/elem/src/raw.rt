@@ -116,72 +116,66 @@ fn push_header(
     push_named(out, e, header)
 }
 
-/// Appends a header member's name in quotes, a colon and its value. Each name is written out here,
-/// so that its length is known when it is copied.
-#[tactic(auto, using(crate::proofs::Appending::extends_same, crate::proofs::Appending::extends_by, crate::proofs::Appending::extends_then, crate::proofs::Appending::on_err_same, crate::proofs::Appending::on_err_then), unfolding(json_text::specs::Characters::quote))]
+/// Appends a header member's name in quotes, a colon and its value.
+#[tactic(auto, using(crate::proofs::Appending::extends_same, crate::proofs::Appending::extends_by, crate::proofs::Appending::extends_then, crate::proofs::Appending::on_err_same, crate::proofs::Appending::on_err_then))]
 fn push_named(out: &mut Vec<u8>, e: &Element, header: Header) -> Result<(), AllocError>
     ensures text { OnOk result (out.new.items
         ≡ (out.old.items ++ (quote (header_name header) ++ 58 ∷ [])) ++ header_value e.now header) }
     ensures kept { OnErr result (Extends out.old.items out.new.items) }
     ensures nests { OnOk result (IsCompact 119 (header_value e.now header)) }
 {
+    push_label(out, header)?;
+    push_value(out, e, header)
+}
+
+/// Appends a header's name in quotes and a colon. Each name is written out here, so that its length
+/// is known when it is copied.
+#[tactic(auto, using(crate::proofs::Appending::extends_same, crate::proofs::Appending::on_err_same), unfolding(json_text::specs::Characters::quote))]
+fn push_label(out: &mut Vec<u8>, header: Header) -> Result<(), AllocError>
+    ensures text { OnOk result (out.new.items
+        ≡ out.old.items ++ (quote (header_name header) ++ 58 ∷ [])) }
+    ensures kept { OnErr result (Extends out.old.items out.new.items) }
+{
     match header {
-        Header::BoundElements => {
-            out.extend_from_slice(b"\"boundElements\":")?;
-            push_listing(out, &e.bound)
-        }
-        Header::ContainerId => {
-            out.extend_from_slice(b"\"containerId\":")?;
-            push_text(out, &e.container)
-        }
-        Header::EndBinding => {
-            out.extend_from_slice(b"\"endBinding\":")?;
-            push_binding(out, &e.end_binding)
-        }
-        Header::FileId => {
-            out.extend_from_slice(b"\"fileId\":")?;
-            push_text(out, &e.file)
-        }
-        Header::FrameId => {
-            out.extend_from_slice(b"\"frameId\":")?;
-            push_text(out, &e.frame)
-        }
-        Header::GroupIds => {
-            out.extend_from_slice(b"\"groupIds\":")?;
-            push_texts(out, &e.groups)
-        }
-        Header::Id => {
-            out.extend_from_slice(b"\"id\":")?;
-            push_quote(out, &e.id)
-        }
-        Header::Index => {
-            out.extend_from_slice(b"\"index\":")?;
-            push_key(out, &e.index)
-        }
-        Header::IsDeleted => {
-            out.extend_from_slice(b"\"isDeleted\":")?;
-            push_truth(out, e.deleted)
-        }
-        Header::StartBinding => {
-            out.extend_from_slice(b"\"startBinding\":")?;
-            push_binding(out, &e.start_binding)
-        }
-        Header::KindName => {
-            out.extend_from_slice(b"\"type\":")?;
-            push_kind(out, &e.kind)
-        }
-        Header::Updated => {
-            out.extend_from_slice(b"\"updated\":")?;
-            push_whole(out, e.updated)
-        }
-        Header::Version => {
-            out.extend_from_slice(b"\"version\":")?;
-            push_whole(out, e.version)
-        }
-        Header::VersionNonce => {
-            out.extend_from_slice(b"\"versionNonce\":")?;
-            push_whole(out, e.nonce)
-        }
+        Header::BoundElements => out.extend_from_slice(b"\"boundElements\":"),
+        Header::ContainerId => out.extend_from_slice(b"\"containerId\":"),
+        Header::EndBinding => out.extend_from_slice(b"\"endBinding\":"),
+        Header::FileId => out.extend_from_slice(b"\"fileId\":"),
+        Header::FrameId => out.extend_from_slice(b"\"frameId\":"),
+        Header::GroupIds => out.extend_from_slice(b"\"groupIds\":"),
+        Header::Id => out.extend_from_slice(b"\"id\":"),
+        Header::Index => out.extend_from_slice(b"\"index\":"),
+        Header::IsDeleted => out.extend_from_slice(b"\"isDeleted\":"),
+        Header::StartBinding => out.extend_from_slice(b"\"startBinding\":"),
+        Header::KindName => out.extend_from_slice(b"\"type\":"),
+        Header::Updated => out.extend_from_slice(b"\"updated\":"),
+        Header::Version => out.extend_from_slice(b"\"version\":"),
+        Header::VersionNonce => out.extend_from_slice(b"\"versionNonce\":"),
+    }
+}
+
+/// Appends the value of a header member.
+#[tactic(auto, using(crate::proofs::Appending::extends_same, crate::proofs::Appending::extends_by, crate::proofs::Appending::on_err_same))]
+fn push_value(out: &mut Vec<u8>, e: &Element, header: Header) -> Result<(), AllocError>
+    ensures text { OnOk result (out.new.items ≡ out.old.items ++ header_value e.now header) }
+    ensures kept { OnErr result (Extends out.old.items out.new.items) }
+    ensures nests { OnOk result (IsCompact 119 (header_value e.now header)) }
+{
+    match header {
+        Header::BoundElements => push_listing(out, &e.bound),
+        Header::ContainerId => push_text(out, &e.container),
+        Header::EndBinding => push_binding(out, &e.end_binding),
+        Header::FileId => push_text(out, &e.file),
+        Header::FrameId => push_text(out, &e.frame),
+        Header::GroupIds => push_texts(out, &e.groups),
+        Header::Id => push_quote(out, &e.id),
+        Header::Index => push_key(out, &e.index),
+        Header::IsDeleted => push_truth(out, e.deleted),
+        Header::StartBinding => push_binding(out, &e.start_binding),
+        Header::KindName => push_kind(out, &e.kind),
+        Header::Updated => push_whole(out, e.updated),
+        Header::Version => push_whole(out, e.version),
+        Header::VersionNonce => push_whole(out, e.nonce),
     }
 }
 
