@@ -428,7 +428,7 @@ async function reloaded() {
   await until(() => rows() === "away:1 old:1", "what waits is held");
   first.room.put([box("away", { version: 2 })]);
   ends();
-  await pause(20);
+  await until(() => rows().includes("away:2"), "what was changed last is held");
   console.log("while the room is away a page holds", rows());
   first.room.close();
   const between = new Member();
