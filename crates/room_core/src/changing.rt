@@ -4,9 +4,11 @@ ghost use Rattle.std.specs.Prelude.{◌≡◌, ◌-◌, ◌<◌, ◌≤◌, OnOk
 ghost use Rattle.std.specs.List.Sorted.{IsStrictlyIncreasing};
 ghost use Rattle.room_core.specs.Rooms.{HaveTaken};
 ghost use Rattle.room_core.specs.Planned.{Suffices, joined_by, taken_by};
+ghost use Rattle.room_core.specs.inner.Kept.{IsInit};
 
 use crate::joined::{insert_link, remove_links};
 use crate::plan::Change;
+use crate::told_text::KeptText;
 use elem_store::Store;
 use std::alloc::AllocError;
 
@@ -28,17 +30,28 @@ pub(crate) fn reserve_for(
     }
 }
 
-/// Puts a change in place for which there is room. It takes no memory.
-pub(crate) fn put_change(store: &mut Store, joined: &mut Vec<u64>, change: Change)
+/// Puts a change in place for which there is room. The text with all stored elements is kept until
+/// elements are taken. Does not allocate.
+pub(crate) fn put_change(
+    store: &mut Store,
+    joined: &mut Vec<u64>,
+    init: &mut Option<KeptText>,
+    change: Change,
+)
     requires fits { Suffices change store.old.spare (vec_capacity joined.old - vec_len joined.old) }
     requires rising { IsStrictlyIncreasing joined.old.items }
+    requires kept { IsInit init.old store.old.elements }
     ensures elements { HaveTaken store.old.elements (taken_by change) store.new.elements }
     ensures joined { joined.new.items ≡ joined_by joined.old.items change }
     ensures rising { IsStrictlyIncreasing joined.new.items }
+    ensures kept { IsInit init.new store.new.elements }
 {
     match change {
         Change::Join(link) => insert_link(joined, link),
-        Change::Take(elements) => store.take_all(elements),
+        Change::Take(elements) => {
+            *init = None;
+            store.take_all(elements);
+        }
         Change::Leave(link) => remove_links(joined, &[link]),
         Change::Unchanged => {}
     }

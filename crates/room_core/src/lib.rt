@@ -13,6 +13,7 @@ mod sending;
 mod serving;
 mod tally;
 mod texts;
+mod told_text;
 
 pub use limits::{RoomLimits, ServeEnd};
 pub use plan::{Change, Plan, Told};
@@ -20,3 +21,4 @@ pub use room::Room;
 pub use sending::send_all;
 pub use serving::serve_room;
 pub use tally::{Tally, opens_link};
+pub use told_text::ToldText;

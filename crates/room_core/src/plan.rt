@@ -3,6 +3,7 @@
 ghost use Rattle.std.specs.Prelude.{◌≡◌, option_copied};
 ghost use Rattle.room_core.specs.Planned.{record_in};
 
+use crate::told_text::ToldText;
 use board_base::{Bytes, List};
 use elem::Element;
 
@@ -10,7 +11,7 @@ use elem::Element;
 #[derive(Drop)]
 pub struct Told {
     pub links: List<u64>,
-    pub text: Bytes,
+    pub text: ToldText,
 }
 
 /// What a step changes of a room.
@@ -44,7 +45,7 @@ impl Plan {
         match &self.change {
             Change::Take(_) => match &self.own_record {
                 Some(text) => Some(text),
-                None => Some(&self.told.text),
+                None => Some(self.told.text.as_bytes()),
             },
             Change::Join(_) | Change::Leave(_) | Change::Unchanged => None,
         }

@@ -6,30 +6,36 @@ ghost use Rattle.board_ends.specs.declared.links.LinkEvent.{LinkEvent};
 ghost use Rattle.room_msg.specs.Texts as texts;
 ghost use Rattle.room_core.specs.Rooms.{is_among, text_for_each, without};
 ghost use Rattle.room_core.specs.Planned.{IsPlanned, record_in, record_of_message, recorded, texts_told};
+ghost use Rattle.room_core.specs.inner.Kept.{IsInit};
 ghost use Rattle.room_core.specs.inner.Planned.{change_by};
 
 use crate::joined::{has_link, other_links};
 use crate::plan::{Change, Plan, Told};
-use crate::texts::{init_text, invalid_text};
+use crate::texts::{invalid_text, kept_init};
+use crate::told_text::{KeptText, ToldText};
 use board_base::{Bytes, List, Stop};
 use board_ends::LinkEvent;
 use elem_store::Store;
 use room_msg::{Message, message_text, read_message};
 use std::alloc::{AllocError, Global};
 
-/// Plans the step of one event in a room that stores these elements, with these joined links.
+/// Plans the step of one event in a room that stores these elements, with these joined links. The
+/// room may keep the text with all stored elements; one that joins leaves it kept.
 pub(crate) fn plan_step(
     store: &Store,
     joined: &Vec<u64>,
+    init: &mut Option<KeptText>,
     event: &LinkEvent,
 ) -> Result<Plan, AllocError>
-    ensures { IfOk result
+    requires kept { IsInit init.old store.now.elements }
+    ensures planned { IfOk result
         (IsPlanned (record { elements = store.now.elements; joined = joined.now.items })
         event.now) }
+    ensures kept { IsInit init.new store.now.elements }
 {
     let alloc = *joined.allocator();
     match event {
-        LinkEvent::Opened(link) => plan_join(store, joined, *link),
+        LinkEvent::Opened(link) => plan_join(store, joined, init, *link),
         LinkEvent::Text(link, bytes) => {
             if has_link(joined, *link) {
                 plan_hear(joined, *link, bytes)
@@ -52,7 +58,7 @@ fn quiet(alloc: Global, change: Change) -> Plan
 {
     let told = Told {
         links: List::new(alloc),
-        text: Bytes::from_vec(Vec::new(alloc)),
+        text: ToldText::new(Bytes::from_vec(Vec::new(alloc))),
     };
     Plan {
         change,
@@ -62,17 +68,24 @@ fn quiet(alloc: Global, change: Change) -> Plan
 }
 
 /// The link joins, and gets the text with all stored elements.
-fn plan_join(store: &Store, joined: &Vec<u64>, link: u64) -> Result<Plan, AllocError>
-    ensures { IfOk result
+fn plan_join(
+    store: &Store,
+    joined: &Vec<u64>,
+    init: &mut Option<KeptText>,
+    link: u64,
+) -> Result<Plan, AllocError>
+    requires kept { IsInit init.old store.now.elements }
+    ensures planned { IfOk result
         (IsPlanned (record { elements = store.now.elements; joined = joined.now.items })
         (LinkEvent.Opened link)) }
+    ensures kept { IsInit init.new store.now.elements }
 {
     let alloc = *joined.allocator();
     Ok(Plan {
         change: Change::Join(link),
         told: Told {
             links: one_link(alloc, link)?,
-            text: init_text(alloc, store)?,
+            text: ToldText::kept(kept_init(alloc, store, init)?),
         },
         own_record: None,
     })
@@ -100,7 +113,7 @@ fn plan_hear(joined: &Vec<u64>, sender: u64, bytes: &Bytes) -> Result<Plan, Allo
             change: Change::Unchanged,
             told: Told {
                 links: one_link(alloc, sender)?,
-                text: invalid_text(alloc, fault)?,
+                text: ToldText::new(invalid_text(alloc, fault)?),
             },
             own_record: None,
         }),
@@ -118,7 +131,7 @@ fn plan_relay(joined: &Vec<u64>, sender: u64, message: Message) -> Result<Plan, 
     let alloc = *joined.allocator();
     let told = Told {
         links: List::from_vec(other_links(alloc, joined, sender)?),
-        text: message_text(alloc, &message)?,
+        text: ToldText::new(message_text(alloc, &message)?),
     };
     let (change, own_record) = change_of(alloc, message)?;
     Ok(Plan {

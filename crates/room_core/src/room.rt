@@ -12,22 +12,26 @@ use crate::changing::{put_change, reserve_for};
 use crate::joined::remove_links;
 use crate::plan::{Plan, Told};
 use crate::planning::plan_step;
+use crate::told_text::KeptText;
 use board_ends::LinkEvent;
 use elem_store::Store;
 use std::alloc::{AllocError, Global};
 use std::marker::Model;
 
-/// A room: what it stores, and its joined links.
+/// A room: what it stores, and its joined links. The text for a link that joins is kept until an
+/// update is put.
 #[derive(Drop)]
 pub struct Room {
     store: Store,
     joined: Vec<u64>,
+    init: Option<KeptText>,
 }
 
 impl Model for Room {
     ghost use Rattle.std.specs.Prelude.{◌-◌, vec_capacity, vec_len};
     ghost use Rattle.std.specs.List.Sorted.{IsStrictlyIncreasing};
     ghost use Rattle.room_core.specs.Rooms.{RoomStock};
+    ghost use Rattle.room_core.specs.inner.Kept.{IsInit};
 
     ghost Value = { RoomStock };
 
@@ -37,7 +41,7 @@ impl Model for Room {
       spare_links = vec_capacity r.joined - vec_len r.joined;
     } };
 
-    ghost invariant = { λ r. IsStrictlyIncreasing r.joined.items };
+    ghost invariant = { λ r. IsStrictlyIncreasing r.joined.items × IsInit r.init r.store.elements };
 }
 
 impl Room {
@@ -48,6 +52,7 @@ impl Room {
         Room {
             store,
             joined: Vec::new(alloc),
+            init: None,
         }
     }
 
@@ -59,7 +64,7 @@ impl Room {
         ensures fits { IfOk result (λ plan. FitsIn plan.change self.new) }
         ensures state { self.new.state ≡ self.old.state }
     {
-        let plan = plan_step(&self.store, &self.joined, event)?;
+        let plan = plan_step(&self.store, &self.joined, &mut self.init, event)?;
         reserve_for(&mut self.store, &mut self.joined, &plan.change)?;
         Ok(plan)
     }
@@ -80,7 +85,7 @@ impl Room {
             told,
             own_record: _own_record,
         } = plan;
-        put_change(&mut self.store, &mut self.joined, change);
+        put_change(&mut self.store, &mut self.joined, &mut self.init, change);
         told
     }
 

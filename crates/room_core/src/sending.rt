@@ -20,9 +20,10 @@ pub fn send_all<L: Links>(alloc: Global, links: &mut L, told: &Told) -> Result<V
     ensures counted { (L.seen links.old).faults ≤ (L.seen links.new).faults }
     ensures gone_counted { (L.seen links.old).gone ≤ (L.seen links.new).gone }
 {
+    let text = told.text.as_bytes();
     let mut gone = Vec::new(alloc);
     for link in told.links.as_slice() {
-        match links.send(*link, &told.text) {
+        match links.send(*link, text) {
             Ok(()) => {}
             Err(SendError::Gone) => gone.push(*link)?,
             Err(SendError::Memory) => return Err(AllocError),

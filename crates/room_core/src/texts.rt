@@ -4,15 +4,35 @@ ghost use Rattle.std.specs.Prelude.{◌≡◌, IfOk};
 ghost use Rattle.room_msg.specs.Texts.{message_text};
 ghost use Rattle.room_msg.specs.declared.message.Message.{Message};
 ghost use Rattle.room_core.specs.Rooms as rooms;
+ghost use Rattle.room_core.specs.inner.Kept.{IsInit};
 
+use crate::told_text::KeptText;
 use board_base::Bytes;
 use elem_store::{Store, push_stored};
 use json_text::push_quoted;
 use room_msg::MsgFault;
 use std::alloc::{AllocError, Global};
 
+/// The text with all stored elements that is kept. It is made and kept if none is.
+pub(crate) fn kept_init(
+    alloc: Global,
+    store: &Store,
+    init: &mut Option<KeptText>,
+) -> Result<KeptText, AllocError>
+    requires kept { IsInit init.old store.now.elements }
+    ensures text { IfOk result (λ text. text ≡ message_text (Message.Init store.now.elements)) }
+    ensures kept { IsInit init.new store.now.elements }
+{
+    if let Some(text) = &*init {
+        return text.try_clone();
+    }
+    let text = KeptText::new(alloc, init_text(alloc, store)?)?;
+    *init = Some(text.try_clone()?);
+    Ok(text)
+}
+
 /// The text with all stored elements, in the order of their ids.
-pub(crate) fn init_text(alloc: Global, store: &Store) -> Result<Bytes, AllocError>
+fn init_text(alloc: Global, store: &Store) -> Result<Bytes, AllocError>
     ensures { IfOk result (λ text. text ≡ message_text (Message.Init store.now.elements)) }
 {
     let mut out = Vec::new(alloc);

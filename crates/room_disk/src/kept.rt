@@ -8,7 +8,7 @@ ghost use Rattle.room_disk.specs.inner.KeptSteps as steps;
 
 use board_base::{Bytes, List};
 use board_ends::{LinkEvent, Links};
-use room_core::{Told, send_all};
+use room_core::{Told, ToldText, send_all};
 use scene_json::push_whole;
 use std::alloc::{AllocError, Global};
 
@@ -28,7 +28,7 @@ pub(crate) fn nothing_told(alloc: Global) -> Told
 {
     Told {
         links: List::new(alloc),
-        text: Bytes::from_vec(Vec::new(alloc)),
+        text: ToldText::new(Bytes::from_vec(Vec::new(alloc))),
     }
 }
 
@@ -38,7 +38,7 @@ pub(crate) fn kept_told(alloc: Global, link: u64, number: u64) -> Result<Told, A
 {
     Ok(Told {
         links: List::from_vec(Vec::from_slice(alloc, &[link])?),
-        text: kept_text(alloc, number)?,
+        text: ToldText::new(kept_text(alloc, number)?),
     })
 }
 

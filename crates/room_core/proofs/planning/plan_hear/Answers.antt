@@ -1,4 +1,4 @@
-use Rattle.std.proofs.Common.{Err, ap, subst}
+use Rattle.std.proofs.Common.{Err, ap, subst, ◌∙◌}
 use Rattle.room_msg.specs.Messages.{IsReadAs}
 use Rattle.room_core.proofs.Steps.{planned-fault, relay-planned}
 use Rattle.room_core.proofs.planning.plan_hear.Goals as goal
@@ -15,4 +15,4 @@ returns-in_ok-invalid_text-in-Err-Fault c = λ elements.
     c.in-Err-Fault.fault _ _ c.requires
     (subst (λ bytes. IsReadAs bytes (Err c.in-Err-Fault.fault)) c.as_slice.ensures
     (c.in-Err-Fault.ensures.fault c.in-Err-Fault.fault (ap Err c.in-Err-Fault.field-0-is)))
-    c.in_ok-one_link-in-Err-Fault.ensures c.in_ok-invalid_text-in-Err-Fault.ensures
+    c.in_ok-one_link-in-Err-Fault.ensures (c.new.ensures ∙ c.in_ok-invalid_text-in-Err-Fault.ensures)

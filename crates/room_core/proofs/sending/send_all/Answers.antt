@@ -43,7 +43,7 @@ loop-link-preserved g c =
           let try : Try = record { link = link; text = text; is_sent = true } in
           let tried = told-next (g.L.Links.seen c.args.links.now) before after links text c.loop-link.gone.items i try
           within here refl c.loop-link.invariant.tried
-          (tells-sent before after link text facts.given facts.ok facts.kept) in
+          (tells-sent before after link text facts.given (rw c.as_bytes-text.ensures at facts.ok) facts.kept) in
           record {
             tried = rw (ap (λ v. v.items) w.gone-is, ← append-nil c.loop-link.gone.items) tried;
             port = facts.port ∙ c.loop-link.invariant.port;
