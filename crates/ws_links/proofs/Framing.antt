@@ -1,6 +1,7 @@
 -- What is written of a text is its frame, and the text stands at its end.
 use Rattle.std.proofs.Common.{◌≡◌, ◌-◌, ℕ, Bool, true, false, cond, List, [], ◌++◌, length, drop, None, Some, Option}
-use Rattle.std.proofs.Common.{subst, true≢false, length-append, arith}
+use Rattle.std.proofs.Common.{◌∙◌, refl, ap, subst, true≢false, append-nil, length-append, arith}
+use Rattle.tungstenite.proofs.SocketLemmas.{conn-eta}
 use Rattle.std.proofs.Math.Seq.{drop-append_seam}
 use Rattle.websocket.specs.declared.protocol.config.Role.TheVariants.{Server}
 use Rattle.websocket.specs.declared.protocol.config.WebSocketConfig.{WebSocketConfig}
@@ -12,6 +13,7 @@ use Rattle.websocket.specs.Frame.{encode_frame}
 use Rattle.websocket.specs.FrameHeader.{encode_header}
 use Rattle.websocket.specs.Text.{is_utf8}
 use Rattle.websocket.specs.View.{Leaves}
+use Rattle.tungstenite.specs.Socket.{Socket, IsFresh}
 use Rattle.ws_links.specs.inner.Texts.{content_of_text, frame_of_text}
 
 -- a server masks nothing
@@ -40,13 +42,20 @@ by-kind false config after bytes out left =
     sent _ bytes out
     (subst (λ conn. Sends conn.role (Some (whole (binary bytes) bytes)) [] out) left.0 left.1)
 
--- what is written of a text
-pub frame-written : (config : WebSocketConfig) (after : Connection) (bytes out : List ℕ)
-    → Leaves (write_step (record { role = Server; state = Active; config = config; fragments = None })
-    (content_of_text bytes)) after [] out
-    → out ≡ frame_of_text bytes
+-- what a server's connection, to which nothing happened, sends of a text
+pub frame-sent : {S : Type 0} (socket : Socket S) (stream : S) (after : Connection) (content : Content)
+    (bytes sent rest : List ℕ) → IsFresh socket stream Server → content ≡ content_of_text bytes → rest ≡ []
+    → Leaves (write_step socket.conn content) after socket.output (sent ++ rest) → sent ≡ frame_of_text bytes
 unfolding frame_of_text
-frame-written config after bytes out left = by-kind (is_utf8 bytes) config after bytes out left
+frame-sent socket stream after content bytes sent rest fresh is-text no-rest left =
+    let conn : Connection = record { role = Server; state = Active; config = socket.conn.config; fragments = None } in
+    let is-fresh = conn-eta socket.conn conn fresh.has_role fresh.is_active refl refl refl fresh.no_fragments in
+    let whole = ap (λ xs. sent ++ xs) no-rest ∙ append-nil sent in
+    by-kind (is_utf8 bytes) socket.conn.config after bytes sent
+    (subst (λ it. Leaves (write_step it (content_of_text bytes)) after [] sent) is-fresh
+    (subst (λ it. Leaves (write_step socket.conn it) after [] sent) is-text
+    (subst (λ it. Leaves (write_step socket.conn content) after it sent) fresh.nothing_waits
+    (subst (λ it. Leaves (write_step socket.conn content) after socket.output it) whole left))))
 
 tail-of : (xs ys : List ℕ) → drop (length (xs ++ ys) - length ys) (xs ++ ys) ≡ ys
 tail-of xs ys =

@@ -4,8 +4,6 @@ ghost use Rattle.std.specs.Prelude.{◌≡◌, ◌==◌, ◌++◌, [], length, d
 
 use std::alloc::{AllocError, Global};
 use std::marker::Model;
-use websocket::error::Error;
-use websocket::protocol::{FrameStatus, NoMask, Step, WebSocketContext};
 
 /// More room than this is given back where most of it isn't used. The system takes larger pieces
 /// back at once and whole; smaller ones it keeps for what is asked next.
@@ -44,16 +42,6 @@ impl Buffer {
         ensures { result.now ≡ self.now.bytes }
     {
         &self.bytes[self.left..]
-    }
-
-    /// The protocol reads the frame that comes first, and unmasks it in its place. What it answers
-    /// is added to the reply.
-    pub(crate) fn read_frame(
-        &mut self,
-        protocol: &mut WebSocketContext,
-        reply: &mut Vec<u8>,
-    ) -> Result<FrameStatus<Step>, Error> {
-        protocol.read(&mut self.bytes[self.left..], reply, &mut NoMask)
     }
 
     pub(crate) fn is_empty(&self) -> bool

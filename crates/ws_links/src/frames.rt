@@ -1,15 +1,15 @@
 //! Texts as frames.
 
 ghost use Rattle.std.specs.Prelude.{◌≡◌, drop, IsTrue, IfOk};
-ghost use Rattle.websocket.specs.Content.{message_content};
+ghost use Rattle.tungstenite.specs.Socket.{content_of};
 ghost use Rattle.ws_links.specs.inner.Texts.{content_of_text, frame_of_text};
 
+use crate::mem::READ;
 use board_base::Stop;
 use board_ends::Failed;
-use std::alloc::Global;
+use std::alloc::{AllocError, Global};
 use std::rc::Rc;
-use websocket::error::Error;
-use websocket::protocol::{Message, NoMask, Role, WebSocketConfig, WebSocketContext};
+use tungstenite::{Duplex, Error, Message, NoMask, Role, WebSocket, WebSocketConfig};
 
 /// How many bytes the head of a frame has at most.
 const HEAD: usize = 14;
@@ -46,6 +46,7 @@ pub(crate) fn config() -> WebSocketConfig {
     WebSocketConfig::default()
         .max_frame_size(Some(64 << 20))
         .max_message_size(Some(64 << 20))
+        .read_buffer_size(READ)
 }
 
 impl Frames {
@@ -142,22 +143,31 @@ fn make_frame(alloc: Global, text: &[u8]) -> Result<Frame, Stop<Failed>>
 fn framed(alloc: Global, text: &[u8]) -> Result<Vec<u8>, Stop<Failed>>
     ensures { IfOk result (λ bytes. bytes.items ≡ frame_of_text text.now) }
 {
-    let mut protocol = WebSocketContext::new(alloc, Role::Server, config());
-    let message = message_of(text);
-    let mut bytes = Vec::with_capacity(alloc, text.len().saturating_add(HEAD))?;
-    match protocol.write(message, &mut bytes, &mut NoMask) {
-        Ok(()) => Ok(bytes),
-        Err(Error::OutOfMemory) => Err(Stop::Memory),
+    let message = message_of(alloc, text)?;
+    let stream = Duplex {
+        reader: [].as_slice(),
+        writer: Vec::with_capacity(alloc, text.len().saturating_add(HEAD))?,
+    };
+    let mut socket = WebSocket::from_raw_socket(
+        alloc,
+        stream,
+        NoMask,
+        Role::Server,
+        Some(config()),
+    );
+    match socket.send(message) {
+        Ok(()) => Ok(socket.into_inner().writer),
+        Err(Error::OutOfMemory | Error::Io(_)) => Err(Stop::Memory),
         Err(_) => Err(Stop::Fault(Failed)),
     }
 }
 
 /// The message that carries a text.
-fn message_of(text: &[u8]) -> Message<'_>
-    ensures { message_content result ≡ content_of_text text.now }
+fn message_of(alloc: Global, text: &[u8]) -> Result<Message, AllocError>
+    ensures { IfOk result (λ message. content_of message ≡ content_of_text text.now) }
 {
     match str::from_utf8(text) {
-        Ok(text) => Message::Text(text),
-        Err(_) => Message::Binary(text),
+        Ok(text) => Message::text(alloc, text),
+        Err(_) => Message::binary(alloc, text),
     }
 }

@@ -1,18 +1,20 @@
 //! What the head of a request is answered: RFC 6455, section 4.2.
 
-ghost use Rattle.httparse.specs.Spans.{IsRequestWithin};
-
-use httparse::Status;
-use httparse::spans::{EMPTY_HEADER_SPAN, HeaderSpan, RequestSpans, Span, parse_request};
+use crate::frames::config;
+use http::{HeaderMap, HeaderValue, Request, Response, StatusCode};
 use std::alloc::{AllocError, Global};
-use websocket::handshake::HandshakeError;
-use websocket::handshake::server::{check_request, write_response};
-
-/// How many headers a request may have.
-const HEADERS: usize = 124;
+use tungstenite::handshake::server::{Callback, ErrorResponse, start};
+use tungstenite::{Duplex, Error, HandshakeError};
+use websocket::handshake::HandshakeError as HeadError;
 
 /// How many bytes a head may have.
 const HEAD: usize = 16_384;
+
+/// What stands in a head in place of its headers `Connection` and `Upgrade`.
+const UPGRADE: &[u8] = b"Connection: Upgrade\r\nUpgrade: websocket\r\n";
+
+/// What ends a head.
+const END: &[u8] = b"\r\n\r\n";
 
 /// What a request that is no handshake is answered.
 const BAD_REQUEST: &[u8] =
@@ -42,78 +44,127 @@ pub(crate) enum Answer {
 }
 
 /// What is answered to these bytes.
-pub(crate) fn answer_to(alloc: Global, head: &[u8]) -> Result<Answer, AllocError> {
-    let mut spans = [EMPTY_HEADER_SPAN; HEADERS];
-    match parse_request(head, &mut spans) {
-        Ok(Status::Complete(found)) => judge(alloc, head, &found, &spans),
-        Ok(Status::Partial) if head.len() < HEAD => Ok(Answer::Wait),
-        Ok(Status::Partial) | Err(_) => Ok(Answer::Refuse(BAD_REQUEST)),
+pub(crate) fn answer_to(alloc: Global, bytes: &[u8]) -> Result<Answer, AllocError> {
+    match whole_head(bytes) {
+        Some(head) => judge(alloc, head),
+        None if bytes.len() < HEAD => Ok(Answer::Wait),
+        None => Ok(Answer::Refuse(BAD_REQUEST)),
     }
+}
+
+/// The bytes up to the first empty line.
+fn whole_head(bytes: &[u8]) -> Option<&[u8]> {
+    let end = bytes.windows(END.len()).position(|window| window == END)?;
+    bytes.get(..end.saturating_add(END.len()))
 }
 
 /// What is answered to a whole head.
-fn judge(
-    alloc: Global,
-    head: &[u8],
-    found: &RequestSpans,
-    spans: &[HeaderSpan],
-) -> Result<Answer, AllocError>
-    requires { IsRequestWithin head.now spans.now found.now }
-{
-    let key = match check_request(head, found, spans) {
-        Ok(key) => key,
-        Err(HandshakeError::MissingSecWebSocketVersionHeader) => {
-            return Ok(Answer::Refuse(UPGRADE_REQUIRED));
-        }
-        Err(_) => return Ok(Answer::Refuse(BAD_REQUEST)),
+fn judge(alloc: Global, head: &[u8]) -> Result<Answer, AllocError> {
+    let plain = plain_head(alloc, head)?;
+    let stream = Duplex {
+        reader: plain.as_slice(),
+        writer: Vec::new(alloc),
     };
-    if !stand_once(head, found.headers, spans) {
-        return Ok(Answer::Refuse(BAD_REQUEST));
-    }
-    if has_stranger(head, found.headers, spans) {
-        return Ok(Answer::Refuse(FORBIDDEN));
-    }
-    let mut reply = Vec::new(alloc);
-    match write_response(&key, &[], &mut reply) {
-        Ok(()) => Ok(Answer::Welcome(reply, found.len)),
-        Err(_) => Err(AllocError),
+    match start(alloc, stream, Gate { alloc }, Some(config())).handshake() {
+        Ok(socket) => Ok(Answer::Welcome(socket.into_inner().writer, head.len())),
+        Err(HandshakeError::Failure(error)) => refusal_of(&error),
+        Err(HandshakeError::Interrupted(_)) => Ok(Answer::Refuse(BAD_REQUEST)),
     }
 }
 
-/// Whether each of these stands once among the first so many headers: RFC 6455, sections 4.2.1 and
-/// 11.3.
-fn stand_once(head: &[u8], count: usize, spans: &[HeaderSpan]) -> bool {
-    let names: [&[u8]; 3] = [b"host", b"sec-websocket-key", b"sec-websocket-version"];
-    for name in names.iter() {
-        let standing = spans
-            .iter()
-            .take(count)
-            .filter(|span| text_at(head, span.name).eq_ignore_ascii_case(*name))
-            .count();
-        if standing != 1 {
-            return false;
+/// The head with `Connection` and `Upgrade` in their plainest form, if it asks for an upgrade to
+/// WebSockets. Both are lists, which may stand in several headers; the library reads the first.
+fn plain_head(alloc: Global, head: &[u8]) -> Result<Vec<u8>, AllocError> {
+    let mut plain = Vec::with_capacity(alloc, head.len().saturating_add(UPGRADE.len()))?;
+    if !has_word(head, b"connection", b"upgrade") || !has_word(head, b"upgrade", b"websocket") {
+        plain.extend_from_slice(head)?;
+        return Ok(plain);
+    }
+    let mut lines = head.split_inclusive(|byte| *byte == b'\n');
+    plain.extend_from_slice(lines.next().unwrap_or(&[]))?;
+    plain.extend_from_slice(UPGRADE)?;
+    for line in lines {
+        if value_of(line, b"connection").is_none() && value_of(line, b"upgrade").is_none() {
+            plain.extend_from_slice(line)?;
         }
     }
-    true
+    Ok(plain)
 }
 
-/// Whether any of the first so many headers names a page of another host as the origin. Programs
-/// name none. A page of another host is refused, so that it doesn't read a board through its
-/// visitor's browser.
-fn has_stranger(head: &[u8], count: usize, spans: &[HeaderSpan]) -> bool {
-    for span in spans.iter().take(count) {
-        if text_at(head, span.name).eq_ignore_ascii_case(b"origin")
-            && !is_local(text_at(head, span.value))
-        {
-            return true;
-        }
+/// Whether the lists in the headers of this name have this word.
+fn has_word(head: &[u8], name: &[u8], word: &[u8]) -> bool {
+    head.split(|byte| *byte == b'\n')
+        .filter_map(|line| value_of(line, name))
+        .any(|value| is_listed(value, word))
+}
+
+/// Whether this list has this word.
+fn is_listed(list: &[u8], word: &[u8]) -> bool {
+    list.split(|byte| *byte == b',')
+        .any(|part| part.trim_ascii().eq_ignore_ascii_case(word))
+}
+
+/// The value of a line, if it is a header of this name.
+fn value_of<'a>(line: &'a [u8], name: &[u8]) -> Option<&'a [u8]> {
+    let colon = line.iter().position(|byte| *byte == b':')?;
+    if line.get(..colon)?.eq_ignore_ascii_case(name) {
+        line.get(colon.saturating_add(1)..)
+    } else {
+        None
     }
-    false
 }
 
-/// The bytes there.
-fn text_at(head: &[u8], span: Span) -> &[u8] {
-    head.get(span.start..span.end).unwrap_or(&[])
+/// How a handshake is refused that failed so.
+fn refusal_of(error: &Error) -> Result<Answer, AllocError> {
+    let reply = match error {
+        Error::OutOfMemory | Error::Io(_) => return Err(AllocError),
+        Error::Handshake(HeadError::MissingSecWebSocketVersionHeader) => UPGRADE_REQUIRED,
+        Error::Refused(response) if response.status() == StatusCode::FORBIDDEN => FORBIDDEN,
+        _ => BAD_REQUEST,
+    };
+    Ok(Answer::Refuse(reply))
+}
+
+/// Lets in whom the rules allow, of those that ask for an upgrade with a valid key.
+#[derive(Drop)]
+struct Gate {
+    alloc: Global,
+}
+
+impl Callback for Gate {
+    fn on_request(
+        self,
+        request: &Request<()>,
+        response: Response<()>,
+    ) -> Result<Response<()>, ErrorResponse> {
+        let headers = request.headers();
+        let status = if !stand_once(headers) {
+            StatusCode::BAD_REQUEST
+        } else if has_stranger(headers) {
+            StatusCode::FORBIDDEN
+        } else {
+            return Ok(response);
+        };
+        let mut refusal = Response::new(self.alloc, None);
+        *refusal.status_mut() = status;
+        Err(refusal)
+    }
+}
+
+/// Whether each of these headers stands once: RFC 6455, sections 4.2.1 and 11.3.
+fn stand_once(headers: &HeaderMap<HeaderValue>) -> bool {
+    ["host", "sec-websocket-key", "sec-websocket-version"]
+        .iter()
+        .all(|name| headers.get_all(*name).into_iter().count() == 1)
+}
+
+/// Whether any header names a page of another host as the origin. Programs name none. A page of
+/// another host is refused, so that it doesn't read a board through its visitor's browser.
+fn has_stranger(headers: &HeaderMap<HeaderValue>) -> bool {
+    headers
+        .get_all("origin")
+        .into_iter()
+        .any(|origin| !is_local(origin.as_bytes()))
 }
 
 /// Whether an origin is of this machine: any scheme and port of `localhost`, `127.0.0.1` or

@@ -8,6 +8,7 @@ mod frames;
 mod greeting;
 mod handshake;
 mod link;
+mod mem;
 mod members;
 mod outbox;
 mod quiet;

@@ -4,9 +4,9 @@ ghost use Rattle.std.specs.Prelude.{◌≡◌};
 ghost use Rattle.ws_links.specs.inner.Held.{held_by};
 ghost use Rattle.ws_links.specs.inner.Sums.{held_with};
 
-use crate::buffer::Buffer;
 use crate::frames::config;
 use crate::greeting::Greeted;
+use crate::mem::Mem;
 use crate::outbox::Outbox;
 use crate::quiet::seconds_between;
 use crate::signal::{Signal, may_go_on};
@@ -15,20 +15,22 @@ use board_ends::Failed;
 use mio::net::TcpStream;
 use std::alloc::{AllocError, Global};
 use std::io::{ErrorKind, Read};
+use std::mem;
 use std::net::Shutdown;
 use std::rc::Rc;
 use std::time::Instant;
-use websocket::error::Error;
-use websocket::protocol::{
-    CloseCode, CloseFrame, FrameStatus, Message, NoMask, Payload, Received, Role, Step,
-    WebSocketContext,
+use tungstenite::{
+    Bytes as Shared, CloseCode, CloseFrame, Error, Message, NoMask, Role, Utf8Bytes, WebSocket,
 };
 
 /// How many bytes are read from a link at once.
 pub(crate) const PIECE: usize = 65_536;
 
-/// How many frames of a link are looked at in one turn.
-const FRAMES: usize = 64;
+/// How many messages of a link are looked at in one turn.
+const MESSAGES: usize = 64;
+
+/// A reader that may have had room for twice this is made anew once it holds nothing.
+const ROOM: usize = 65_536;
 
 /// How many unsent bytes of one link are kept before it counts as gone.
 const KEPT: usize = 128 << 20;
@@ -48,20 +50,20 @@ const FAREWELL: u64 = 5;
 /// How many pieces that came are thrown away where the room ends.
 const LAST: usize = 64;
 
-/// A link: its socket, the protocol, what came and what is to leave.
+/// The protocol over a stream in memory.
+type Reader = WebSocket<Mem, NoMask>;
+
+/// A link: its socket, the protocol with what came, and what is to leave.
 #[derive(Drop)]
 pub(crate) struct Link {
     alloc: Global,
     pub(crate) number: u64,
     pub(crate) token: usize,
     socket: TcpStream,
-    protocol: WebSocketContext,
-    input: Buffer,
-    // How many bytes of fragments the protocol keeps.
-    fragments: usize,
+    reader: Reader,
     // A text that was read, until its copy is made.
-    text: Option<Step>,
-    // Whether the input may hold another whole frame.
+    text: Option<Message>,
+    // Whether another whole frame may have come.
     has_more: bool,
     outbox: Outbox,
     // When a byte came last, or it began.
@@ -91,16 +93,14 @@ impl Link {
             rest,
             ends,
         } = greeted;
-        let mut input = Buffer::new(alloc);
-        input.extend(&rest)?;
+        let mut stream = Mem::new(alloc);
+        stream.input.extend(&rest)?;
         Ok(Link {
             alloc,
             number,
             token,
             socket,
-            protocol: WebSocketContext::new(alloc, Role::Server, config()),
-            input,
-            fragments: 0,
+            reader: reader_of(alloc, stream),
             text: None,
             has_more: true,
             outbox: Outbox::new(alloc),
@@ -149,12 +149,18 @@ impl Link {
     pub(crate) fn held(&self) -> usize
         ensures { result ≡ held_by self.now }
     {
-        held_with(self.input.held(), self.fragments, self.outbox.held())
+        let stream = self.reader.get_ref();
+        held_with(
+            stream.input.held(),
+            stream.reader_half(),
+            self.outbox.held(),
+        )
     }
 
     /// How many bytes of memory it holds besides the frames, which it shares with other links.
     pub(crate) fn own(&self) -> usize {
-        held_with(self.input.held(), self.fragments, self.outbox.own())
+        let stream = self.reader.get_ref();
+        held_with(stream.input.held(), stream.reader_half(), self.outbox.own())
     }
 
     /// Whether it keeps too much that its peer doesn't take.
@@ -165,10 +171,8 @@ impl Link {
     /// It ends at its next turn, and holds nothing any more.
     pub(crate) fn end(&mut self) {
         self.is_ended = true;
-        self.input = Buffer::new(self.alloc);
         self.text = None;
-        self.protocol = WebSocketContext::new(self.alloc, Role::Server, config());
-        self.fragments = 0;
+        self.reader = reader_of(self.alloc, Mem::new(self.alloc));
         self.outbox = Outbox::new(self.alloc);
     }
 
@@ -208,12 +212,13 @@ impl Link {
     /// Reads once into the input, and tells whether anything came. Room is made before the bytes
     /// are taken from the socket, so that none is lost for want of memory.
     fn read(&mut self, now: Option<Instant>, piece: &mut [u8]) -> Result<bool, Stop<Failed>> {
-        self.input.reserve(piece.len())?;
+        let input = &mut self.reader.get_mut().input;
+        input.reserve(piece.len())?;
         let mut socket = &self.socket;
         match socket.read(piece) {
             Ok(0) => Err(Stop::Fault(Failed)),
             Ok(count) => {
-                self.input.extend(&piece[..count])?;
+                input.extend(&piece[..count])?;
                 self.reads = self.ends || count == piece.len();
                 self.heard = now;
                 self.pings = 0;
@@ -222,7 +227,7 @@ impl Link {
             }
             Err(error) if may_go_on(error.kind()) && !self.outbox.is_broken() => {
                 self.reads = error.kind() == ErrorKind::Interrupted;
-                self.input.leave(0);
+                input.leave(0);
                 Ok(false)
             }
             Err(_) => Err(Stop::Fault(Failed)),
@@ -231,61 +236,79 @@ impl Link {
 
     /// The next text among some of the frames that came.
     fn next_text(&mut self) -> Result<Option<Bytes>, Stop<Failed>> {
-        for _ in 0..FRAMES {
+        self.reader.get_mut().begin_turn();
+        for _ in 0..MESSAGES {
             if let Some(text) = self.take_text()? {
                 return Ok(Some(text));
             }
             if !self.has_more {
                 return Ok(None);
             }
-            self.take_frame()?;
+            self.take_message()?;
         }
         Ok(None)
     }
 
     /// The text that was read, copied. For want of memory it stays.
     fn take_text(&mut self) -> Result<Option<Bytes>, AllocError> {
-        let Some(step) = &self.text else {
-            return Ok(None);
+        let bytes = match &self.text {
+            Some(Message::Text(text)) => text.as_bytes().as_slice(),
+            Some(Message::Binary(bytes)) => bytes.as_slice(),
+            _ => return Ok(None),
         };
-        let text = Bytes::from_slice(self.alloc, text_of(step, self.input.as_slice()))?;
-        self.input.leave(step.consumed);
-        self.fragments = 0;
+        let text = Bytes::from_slice(self.alloc, bytes)?;
         self.text = None;
+        self.reader.get_mut().end_message();
+        self.renew();
         Ok(Some(text))
     }
 
-    /// Takes the next frame from the input. `Fault` where it ends the link.
-    fn take_frame(&mut self) -> Result<(), Stop<Failed>> {
-        let mut reply = Vec::new(self.alloc);
-        match self.input.read_frame(&mut self.protocol, &mut reply) {
-            Ok(FrameStatus::Partial(_)) => {
-                self.has_more = false;
-                Ok(())
-            }
-            Ok(FrameStatus::Complete(step)) => {
-                self.outbox.reply(&reply)?;
-                self.keep(step)
+    /// Makes a large reader anew, which holds nothing.
+    fn renew(&mut self) {
+        if self.reader.get_ref().reader_half() > ROOM {
+            let fresh = reader_of(self.alloc, Mem::new(self.alloc));
+            let stream = mem::replace(&mut self.reader, fresh).into_inner();
+            self.reader = reader_of(self.alloc, stream.renewed());
+        }
+    }
+
+    /// Takes the next message, as far as it came. `Fault` where it ends the link.
+    fn take_message(&mut self) -> Result<(), Stop<Failed>> {
+        match self.reader.read() {
+            Ok(message) => self.keep(message),
+            Err(Error::Io(error)) if error.kind() == ErrorKind::WouldBlock => {
+                self.has_more = self.reader.get_ref().has_more();
+                Ok(self.post()?)
             }
             Err(error) => Err(self.break_off(error)),
         }
     }
 
-    /// Keeps a text, and is done with any other frame. A close was answered, and ends the link.
-    fn keep(&mut self, step: Step) -> Result<(), Stop<Failed>> {
-        match &step.message {
-            Some(Received::Text(_) | Received::Binary(_)) => {
-                self.text = Some(step);
-                return Ok(());
+    /// Keeps a text, and is done with any other message. A close was answered, and ends the link.
+    fn keep(&mut self, message: Message) -> Result<(), Stop<Failed>> {
+        match message {
+            Message::Text(_) | Message::Binary(_) => {
+                self.text = Some(message);
+                Ok(())
             }
-            Some(Received::Close(_)) => {
+            Message::Ping(_) | Message::Pong(_) => {
+                self.reader.get_mut().end_control();
+                Ok(self.post()?)
+            }
+            Message::Close(_) => {
+                let _ = self.post();
                 self.part();
-                return Err(Stop::Fault(Failed));
+                Err(Stop::Fault(Failed))
             }
-            Some(Received::Ping(_) | Received::Pong(_)) => {}
-            None => self.fragments = self.fragments.saturating_add(step.consumed),
         }
-        self.input.leave(step.consumed);
+    }
+
+    /// What the protocol writes joins the replies. For want of memory it stays.
+    fn post(&mut self) -> Result<(), AllocError> {
+        let _ = self.reader.flush();
+        let stream = self.reader.get_mut();
+        self.outbox.reply(&stream.output)?;
+        stream.output = Vec::new(self.alloc);
         Ok(())
     }
 
@@ -295,8 +318,8 @@ impl Link {
             Error::Protocol(_) => CloseCode::Protocol,
             Error::Utf8 => CloseCode::Invalid,
             Error::Capacity(_) => CloseCode::Size,
-            Error::OutOfMemory => return Stop::Memory,
-            Error::ConnectionClosed | Error::AlreadyClosed => return Stop::Fault(Failed),
+            Error::OutOfMemory | Error::Io(_) => return Stop::Memory,
+            _ => return Stop::Fault(Failed),
         };
         self.say_goodbye(code);
         self.part();
@@ -318,10 +341,9 @@ impl Link {
             return;
         }
         self.flush(self.heard, &mut []);
-        let mut close = Vec::new(self.alloc);
-        let frame = CloseFrame { code, reason: "" };
-        let _ = self.protocol.close(Some(frame), &mut close, &mut NoMask);
-        let _ = self.outbox.reply(&close);
+        let reason = Utf8Bytes::new();
+        let _ = self.reader.close(Some(CloseFrame { code, reason }));
+        let _ = self.post();
         self.flush(self.heard, &mut []);
     }
 
@@ -373,12 +395,8 @@ impl Link {
     }
 
     fn ping(&mut self) -> Result<(), AllocError> {
-        let mut ping = Vec::new(self.alloc);
-        match self
-            .protocol
-            .write(Message::Ping(&[]), &mut ping, &mut NoMask)
-        {
-            Ok(()) => self.outbox.reply(&ping),
+        match self.reader.send(Message::Ping(Shared::new())) {
+            Ok(()) => self.post(),
             Err(_) => Err(AllocError),
         }
     }
@@ -386,7 +404,7 @@ impl Link {
     /// Keeps the frame until what is kept is written, which is at once where that is much. For want
     /// of memory nothing is kept of it. `Fault` where the link ended.
     pub(crate) fn send(&mut self, frame: Rc<Vec<u8>>) -> Result<(), Stop<Failed>> {
-        if self.is_ended || self.is_full() || !self.protocol.can_write() {
+        if self.is_ended || self.is_full() || !self.reader.can_write() {
             return Err(Stop::Fault(Failed));
         }
         if !self.outbox.is_broken() {
@@ -399,28 +417,17 @@ impl Link {
     }
 }
 
-/// How many bytes are held: input, fragments whose room may double, and what is to leave.
-fn held_with(input: usize, fragments: usize, outbox: usize) -> usize
-    ensures { result ≡ held_with input fragments outbox }
+/// The protocol of a server over this stream.
+fn reader_of(alloc: Global, stream: Mem) -> Reader {
+    WebSocket::from_raw_socket(alloc, stream, NoMask, Role::Server, Some(config()))
+}
+
+/// How many bytes are held: what came, twice the half of the reader, and what is to leave.
+fn held_with(input: usize, half: usize, outbox: usize) -> usize
+    ensures { result ≡ held_with input half outbox }
 {
     input
-        .saturating_add(fragments)
-        .saturating_add(fragments)
+        .saturating_add(half)
+        .saturating_add(half)
         .saturating_add(outbox)
-}
-
-/// The bytes of a text that was read from this input.
-fn text_of<'a>(step: &'a Step, input: &'a [u8]) -> &'a [u8] {
-    match &step.message {
-        Some(Received::Text(payload) | Received::Binary(payload)) => bytes_of(payload, input),
-        _ => &[],
-    }
-}
-
-/// The bytes of a message.
-fn bytes_of<'a>(payload: &'a Payload, input: &'a [u8]) -> &'a [u8] {
-    match payload {
-        Payload::Input(span) => input.get(span.start..span.end).unwrap_or(&[]),
-        Payload::Assembled(bytes) => bytes.as_slice(),
-    }
 }

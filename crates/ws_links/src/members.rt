@@ -11,7 +11,7 @@ use board_base::{Bytes, Stop};
 use board_ends::{Failed, LinkEvent};
 use std::alloc::{AllocError, Global};
 use std::time::Instant;
-use websocket::protocol::CloseCode;
+use tungstenite::CloseCode;
 
 /// How many bytes of memory all links hold at most, what came and what is to leave.
 const HELD: usize = 1 << 30;

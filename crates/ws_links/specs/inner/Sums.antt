@@ -5,6 +5,6 @@ use Rattle.std.specs.Prelude.{◌+◌, ◌-◌, ◌^◌, ℕ, min}
 abbrev pub capped : ℕ → ℕ → ℕ
 capped a b = min (a + b) (2 ^ 64 - 1)
 
--- how many bytes are held: input, fragments whose room may double, and what is to leave
+-- how many bytes are held: what came, twice the half of the reader, and what is to leave
 abbrev pub held_with : ℕ → ℕ → ℕ → ℕ
-held_with input fragments outbox = capped (capped (capped input fragments) fragments) outbox
+held_with input half outbox = capped (capped (capped input half) half) outbox

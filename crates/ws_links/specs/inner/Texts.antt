@@ -1,9 +1,9 @@
 -- What is sent of a text.
 use Rattle.std.specs.Prelude.{ℕ, cond, List, None}
-use Rattle.websocket.specs.Connection.{whole_header}
-use Rattle.websocket.specs.Content.{Content, text, binary, content_opcode}
-use Rattle.websocket.specs.Frame.{encode_frame}
-use Rattle.websocket.specs.Text.{is_utf8}
+use Rattle.tungstenite.specs.Connection.{whole_header}
+use Rattle.tungstenite.specs.Content.{Content, text, binary, content_opcode}
+use Rattle.tungstenite.specs.Frame.{encode_frame}
+use Rattle.tungstenite.specs.Text.{is_utf8}
 
 -- a text is sent as text where it is UTF-8, else as a binary message
 abbrev pub content_of_text : List ℕ → Content

@@ -1,10 +1,14 @@
--- What was written is the frame.
-use Rattle.ws_links.proofs.Framing.{frame-written}
+-- What was sent is the frame.
+use Rattle.std.proofs.Common.{◌∙◌, ◌++◌, ap}
+use Rattle.ws_links.proofs.Framing.{frame-sent}
 use Rattle.ws_links.proofs.frames.framed.Goals as goal
 
 pub returns-in-Ok : goal.returns-in-Ok
 returns-in-Ok c =
-    let told = rw c.message_of-message.ensures at c.in-Ok.ensures.ok in
-    let fresh = rw c.new-protocol.ensures at told in
-    let empty = rw c.in_ok-bytes.ensures.items at fresh in
-    frame-written _ _ _ _ empty
+    let wrote = c.in-Ok.ensures.wrote in
+    let fresh = c.from_raw_socket-socket.ensures.fresh in
+    ap (λ stream. stream.writer.items) c.into_inner.ensures
+    ∙ wrote.2
+    ∙ ap (λ stream. stream.writer.items ++ wrote.0) fresh.on_stream
+    ∙ ap (λ items. items ++ wrote.0) c.in_ok-with_capacity.ensures.items
+    ∙ frame-sent _ _ _ _ _ _ _ fresh c.in_ok-message.ensures c.in-Ok.ensures.empty wrote.1
