@@ -10,9 +10,6 @@ use websocket::handshake::HandshakeError as HeadError;
 /// How many bytes a head may have.
 const HEAD: usize = 16_384;
 
-/// What stands in a head in place of its headers `Connection` and `Upgrade`.
-const UPGRADE: &[u8] = b"Connection: Upgrade\r\nUpgrade: websocket\r\n";
-
 /// What ends a head.
 const END: &[u8] = b"\r\n\r\n";
 
@@ -72,30 +69,25 @@ fn judge(alloc: Global, head: &[u8]) -> Result<Answer, AllocError> {
     }
 }
 
-/// The head with `Connection` and `Upgrade` in their plainest form, if it asks for an upgrade to
-/// WebSockets. Both are lists, which may stand in several headers; the library reads the first.
+/// The head with `Connection` and `Upgrade` at its end, each as one word, if they ask for an upgrade
+/// to WebSockets. Both are lists, which may stand in several headers; the library reads the first.
 fn plain_head(alloc: Global, head: &[u8]) -> Result<Vec<u8>, AllocError> {
-    let mut plain = Vec::with_capacity(alloc, head.len().saturating_add(UPGRADE.len()))?;
-    if !has_word(head, b"connection", b"upgrade") || !has_word(head, b"upgrade", b"websocket") {
-        plain.extend_from_slice(head)?;
-        return Ok(plain);
-    }
-    let mut lines = head.split_inclusive(|byte| *byte == b'\n');
-    plain.extend_from_slice(lines.next().unwrap_or(&[]))?;
-    plain.extend_from_slice(UPGRADE)?;
-    for line in lines {
-        if value_of(line, b"connection").is_none() && value_of(line, b"upgrade").is_none() {
+    let mut plain = Vec::new(alloc);
+    let (mut upgrades, mut to_websocket) = (false, false);
+    for line in head.split_inclusive(|byte| *byte == b'\n') {
+        if let Some(list) = value_of(line, b"connection") {
+            upgrades = upgrades || is_listed(list, b"upgrade");
+        } else if let Some(list) = value_of(line, b"upgrade") {
+            to_websocket = to_websocket || is_listed(list, b"websocket");
+        } else if line != b"\r\n".as_slice() {
             plain.extend_from_slice(line)?;
         }
     }
+    if upgrades && to_websocket {
+        plain.extend_from_slice(b"Connection: Upgrade\r\nUpgrade: websocket\r\n")?;
+    }
+    plain.extend_from_slice(b"\r\n")?;
     Ok(plain)
-}
-
-/// Whether the lists in the headers of this name have this word.
-fn has_word(head: &[u8], name: &[u8], word: &[u8]) -> bool {
-    head.split(|byte| *byte == b'\n')
-        .filter_map(|line| value_of(line, name))
-        .any(|value| is_listed(value, word))
 }
 
 /// Whether this list has this word.

@@ -6,7 +6,7 @@ ghost use Rattle.ws_links.specs.inner.Sums.{held_with};
 
 use crate::frames::config;
 use crate::greeting::Greeted;
-use crate::mem::Mem;
+use crate::mem::{Mem, PIECES};
 use crate::outbox::Outbox;
 use crate::quiet::seconds_between;
 use crate::signal::{Signal, may_go_on};
@@ -25,9 +25,6 @@ use tungstenite::{
 
 /// How many bytes are read from a link at once.
 pub(crate) const PIECE: usize = 65_536;
-
-/// How many messages of a link are looked at in one turn.
-const MESSAGES: usize = 64;
 
 /// A reader that may have had room for twice this is made anew once it holds nothing.
 const ROOM: usize = 65_536;
@@ -236,8 +233,8 @@ impl Link {
 
     /// The next text among some of the frames that came.
     fn next_text(&mut self) -> Result<Option<Bytes>, Stop<Failed>> {
-        self.reader.get_mut().begin_turn();
-        for _ in 0..MESSAGES {
+        self.reader.get_mut().pieces = PIECES;
+        for _ in 0..PIECES {
             if let Some(text) = self.take_text()? {
                 return Ok(Some(text));
             }
@@ -265,10 +262,11 @@ impl Link {
 
     /// Makes a large reader anew, which holds nothing.
     fn renew(&mut self) {
-        if self.reader.get_ref().reader_half() > ROOM {
+        if self.reader.get_ref().most > ROOM {
             let fresh = reader_of(self.alloc, Mem::new(self.alloc));
-            let stream = mem::replace(&mut self.reader, fresh).into_inner();
-            self.reader = reader_of(self.alloc, stream.renewed());
+            let mut stream = mem::replace(&mut self.reader, fresh).into_inner();
+            stream.most = 0;
+            self.reader = reader_of(self.alloc, stream);
         }
     }
 
@@ -277,7 +275,7 @@ impl Link {
         match self.reader.read() {
             Ok(message) => self.keep(message),
             Err(Error::Io(error)) if error.kind() == ErrorKind::WouldBlock => {
-                self.has_more = self.reader.get_ref().has_more();
+                self.has_more = self.reader.get_ref().pieces == 0;
                 Ok(self.post()?)
             }
             Err(error) => Err(self.break_off(error)),
@@ -312,13 +310,17 @@ impl Link {
         Ok(())
     }
 
-    /// Tells the peer of its breach, and ends. Want of memory is that.
+    /// Tells the peer of its breach, and ends. Without memory for a message it just ends.
     fn break_off(&mut self, error: Error) -> Stop<Failed> {
         let code = match error {
             Error::Protocol(_) => CloseCode::Protocol,
             Error::Utf8 => CloseCode::Invalid,
             Error::Capacity(_) => CloseCode::Size,
-            Error::OutOfMemory | Error::Io(_) => return Stop::Memory,
+            Error::Io(_) => return Stop::Memory,
+            Error::OutOfMemory => {
+                self.end();
+                return Stop::Memory;
+            }
             _ => return Stop::Fault(Failed),
         };
         self.say_goodbye(code);

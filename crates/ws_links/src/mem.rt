@@ -11,7 +11,7 @@ use std::io::{self, ErrorKind, Read, Write};
 pub(crate) const READ: usize = 4096;
 
 /// How many pieces are handed over in one turn.
-const PIECES: usize = 64;
+pub(crate) const PIECES: usize = 64;
 
 /// What came over a socket, and what is to be written.
 ///
@@ -29,10 +29,10 @@ pub(crate) struct Mem {
     frame: usize,
     // How many bytes of fragments the reader may hold.
     fragments: usize,
-    // The most bytes of a frame that were handed over, and what is read at once.
-    most: usize,
-    // How many pieces may be handed over in this turn.
-    pieces: usize,
+    /// The most bytes of a frame that the reader was handed, and some for each read.
+    pub(crate) most: usize,
+    /// How many pieces may be handed over in this turn. If none, more may be there.
+    pub(crate) pieces: usize,
 }
 
 impl Mem {
@@ -46,16 +46,6 @@ impl Mem {
             most: 0,
             pieces: 0,
         }
-    }
-
-    /// A turn begins.
-    pub(crate) fn begin_turn(&mut self) {
-        self.pieces = PIECES;
-    }
-
-    /// Whether the turn ended before all that came was handed over.
-    pub(crate) fn has_more(&self) -> bool {
-        self.pieces == 0
     }
 
     /// The reader is done with a ping or a pong.
@@ -74,12 +64,6 @@ impl Mem {
         ensures { result ≡ reader_half self.now }
     {
         self.most.saturating_add(self.fragments)
-    }
-
-    /// The stream of a new reader, of which the old one held nothing.
-    pub(crate) fn renewed(mut self) -> Mem {
-        self.most = 0;
-        self
     }
 
     /// Whether a frame is under way. The next one begins once its head is there.
