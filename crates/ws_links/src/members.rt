@@ -20,6 +20,9 @@ const HELD: usize = 1 << 30;
 /// message of fragments, may double.
 const GROWTH: usize = 256 << 20;
 
+/// How many bytes the longest text has for which there is ever room.
+const LONGEST: usize = HELD - GROWTH;
+
 /// How many links that were broken off are listened to.
 const LEAVERS: usize = 64;
 
@@ -141,9 +144,13 @@ impl Members {
         Ok(None)
     }
 
-    /// Sends a text over a link. `Fault` where the link is gone, or keeps too much; it is closed
-    /// then.
+    /// Sends a text over a link. `Fault` if the link is gone, if it keeps too much, or if there is
+    /// never room for the text. The link is closed then.
     pub(crate) fn send(&mut self, number: u64, text: &Bytes) -> Result<(), Stop<Failed>> {
+        if text.as_slice().len() > LONGEST {
+            self.close(number);
+            return Err(Stop::Fault(Failed));
+        }
         self.relieve(text.as_slice().len().saturating_add(GROWTH));
         let frame = self.frames.frame_of(text.as_slice())?;
         self.own = self.own.saturating_add(PLACE);

@@ -11,8 +11,9 @@ use std::alloc::{AllocError, Global};
 use std::net::Net;
 use std::time::{Clock, Duration, Instant};
 
-/// How many milliseconds are waited at most where nothing is ready.
-const WAIT: u64 = 100;
+/// How many milliseconds are waited at most if nothing is ready. All that is done by the clock is done
+/// to the second.
+const WAIT: u64 = 1000;
 
 /// How many times in one call what is ready is looked through: more than go into a millisecond,
 /// after which it is Idle.

@@ -12,11 +12,11 @@ use std::time::Clock;
 
 /// Links over WebSockets on 127.0.0.1. They tell no content.
 ///
-/// A text or a binary message is a text of its link. Nothing waits for a peer: what a socket
-/// doesn't take is kept, and written first at later calls. Where nothing is ready `next` waits for
-/// it, a tenth of a second at most, and is Idle once for each millisecond in which nothing came. A
-/// link that keeps more than 128 MiB unsent is gone; all hold 1 GiB at most, and where it would be
-/// more the one that holds most ends.
+/// A text or a binary message is a text of its link. Nothing waits for a peer: what a socket doesn't
+/// take is kept, and written first at later calls. If nothing is ready `next` waits for it, a second
+/// at most, and is Idle once for each millisecond in which nothing came. A link that keeps more than
+/// 128 MiB unsent is gone. All links hold 1 GiB at most: before they hold more, the one that holds
+/// most ends. A text of more than 768 MiB never has room, and ends the link that it is for.
 #[derive(Drop)]
 pub struct WsLinks<R> {
     port: Option<u16>,
