@@ -1,0 +1,8 @@
+mod Existing
+mod JudgedLaws
+mod KeptLaws
+mod Leads
+mod Named
+mod Once
+mod Steps
+mod Told

@@ -1,0 +1,4 @@
+pub mod Checks
+pub mod Lines
+pub mod Reading
+pub mod inner
