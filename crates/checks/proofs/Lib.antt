@@ -1,3 +1,4 @@
+pub mod CallerLemmas
 mod Existing
 mod JudgedLaws
 mod KeptLaws

@@ -66,7 +66,7 @@ verdicts-once place (value ∷ values) (v ∷ vs) (w ∷ ws) one two =
     ap₂ (λ x xs. x ∷ xs) (verdict-once place value v w one.0 two.0)
     (verdicts-once (place + 1) values vs ws one.1 two.1)
 
-values-once : (text : List ℕ) (vs ws : List (List ℕ)) → HasValues text vs → HasValues text ws → vs ≡ ws
+pub values-once : (text : List ℕ) (vs ws : List (List ℕ)) → HasValues text vs → HasValues text ws → vs ≡ ws
 values-once text vs ws one two =
     items-once (value_unless_null (codes "elements") one.members) vs ws one.items
     (subst (λ ms. HasItems (value_unless_null (codes "elements") ms) ws)
@@ -169,6 +169,14 @@ told-once judged text other = by (are_scenes judged)
         → MatchBool b (IsBoardTold judged other) (other ≡ fault_lines judged) → text ≡ other
     by true one two = board-once judged text other one two
     by false one two = one ∙ sym two
+
+some-read : (bytes : List ℕ) (js : List Judged) → (js ≡ [] → ⊥) → AreTexts bytes 1 0 js → is_blank bytes ≡ false
+some-read bytes [] some read = absurd (some refl)
+some-read bytes (j ∷ js) some read = read.0
+
+-- An input of white space alone is told nothing.
+pub checked-some : (bytes text : List ℕ) → IsChecked bytes text → is_blank bytes ≡ false
+checked-some bytes text is = some-read bytes is.judged is.some is.read
 
 pub checked-once : (bytes text other : List ℕ) → IsChecked bytes text → IsChecked bytes other → text ≡ other
 checked-once bytes text other one two =

@@ -14,7 +14,7 @@ use Rattle.commands.specs.Words.{HasNames, asked, asked_alone, asked_command, as
 use Rattle.commands.specs.declared.status.Fault.{Fault}
 use Rattle.commands.specs.declared.status.Fault.TheVariants as fault
 use Rattle.commands.specs.declared.words.ProgramCommand.{ProgramCommand}
-use Rattle.commands.specs.declared.words.ProgramCommand.TheVariants.{Restore, Merge, State, Pictures, Replay, Recover, Paste, Library, Insert}
+use Rattle.commands.specs.declared.words.ProgramCommand.TheVariants.{Restore, Merge, State, Pictures, Replay, Recover, Paste, Library, Insert, Check}
 use Rattle.commands.specs.declared.words.Drill.{Drill}
 use Rattle.commands.specs.declared.words.Begins.{Begins}
 use Rattle.commands.specs.declared.words.Keeping.{Keeping}
@@ -36,6 +36,7 @@ asked-words (Recover form.State) names = refl
 asked-words (Recover form.Scene) names = refl
 asked-words (Paste prefix) names = ap (λ b. option_map Answer (if b then Some (Paste prefix) else None)) names
 asked-words Library names = refl
+asked-words Check names = refl
 asked-words (Insert insertion) names =
     ap₂ (λ a b. option_map Answer (if a && b then Some (Insert insertion) else None)) names.0 names.1
 
@@ -137,7 +138,8 @@ plain-words word options command e =
     (tested word (codes "recover") options _ _ command (laid-out Recover asked_form form_options (codes "recover")
     options command (form-words options) recover-words (λ x. tt))
     (tested word (codes "library") options _ _ command (alone Library command (codes "library") options refl tt)
-    (λ e. absurd (none-some command e)))))))) e
+    (tested word (codes "check") options _ _ command (alone Check command (codes "check") options refl tt)
+    (λ e. absurd (none-some command e))))))))) e
 
 -- a command that takes a text where a word may stand for it
 named : (is : Bool) (made command : ProgramCommand) (words : List (List ℕ)) → words ≡ words_of made

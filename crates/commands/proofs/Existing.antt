@@ -29,8 +29,9 @@ use Rattle.commands.specs.Pictures.IsToldOfPicture.{size, not_base64, no_data_ur
 use Rattle.commands.specs.declared.status.InputRefusal.{InputRefusal}
 use Rattle.commands.specs.declared.status.InputRefusal.TheVariants as refusal
 use Rattle.commands.specs.declared.words.ProgramCommand.{ProgramCommand}
-use Rattle.commands.specs.declared.words.ProgramCommand.TheVariants.{Restore, Merge, State, Pictures, Replay, Recover, Paste, Library, Insert}
+use Rattle.commands.specs.declared.words.ProgramCommand.TheVariants.{Restore, Merge, State, Pictures, Replay, Recover, Paste, Library, Insert, Check}
 use Rattle.commands.specs.Words.{HasNames}
+use Rattle.commands.proofs.CheckedInputs.{check-exists}
 use Rattle.commands.proofs.JournalExists.{AreAnswered, AreWhole, recovered-exists}
 use Rattle.commands.proofs.PasteExists.{pasted-exists}
 use Rattle.commands.proofs.ShelfExists.{shelf-exists}
@@ -168,6 +169,7 @@ scenes-answered (Recover form) bytes scenes takes has = absurd takes
 scenes-answered (Paste prefix) bytes scenes takes has = absurd takes
 scenes-answered Library bytes scenes takes has = absurd takes
 scenes-answered (Insert insertion) bytes scenes takes has = absurd takes
+scenes-answered Check bytes scenes takes has = absurd takes
 
 pub scene-answered : (layout : Layout) (bytes : List ℕ) (scene : Scene) → HasScenes bytes (scene ∷ [])
     → (text : List ℕ) × IsAnswer (Restore layout) bytes (Ok text)
@@ -241,3 +243,4 @@ answer-exists answered whole (Recover form) bytes names = recovered-exists answe
 answer-exists answered whole (Paste prefix) bytes names = pasted-exists prefix bytes names
 answer-exists answered whole Library bytes names = shelf-exists bytes
 answer-exists answered whole (Insert insertion) bytes names = inserted-exists insertion bytes names.1
+answer-exists answered whole Check bytes names = check-exists bytes

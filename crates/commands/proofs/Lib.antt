@@ -5,6 +5,7 @@ pub mod Answering
 pub mod Asking
 pub mod BegunRooms
 pub mod ById
+pub mod CheckedInputs
 pub mod Drills
 pub mod Existing
 pub mod FrontExists

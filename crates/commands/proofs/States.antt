@@ -21,7 +21,7 @@ use Rattle.commands.specs.Boards.{IsBoardOf, heads_of, updates_of}
 use Rattle.commands.specs.Faults.{newline}
 use Rattle.commands.specs.Input.{ScenesLead, HasScenes}
 use Rattle.commands.specs.declared.words.ProgramCommand.{ProgramCommand}
-use Rattle.commands.specs.declared.words.ProgramCommand.TheVariants.{Restore, Merge, State, Pictures, Replay, Recover, Paste, Library, Insert}
+use Rattle.commands.specs.declared.words.ProgramCommand.TheVariants.{Restore, Merge, State, Pictures, Replay, Recover, Paste, Library, Insert, Check}
 use Rattle.commands.proofs.Inputs.{input-once}
 use Rattle.commands.proofs.Reread.{board-whole}
 
@@ -262,6 +262,7 @@ answer-same (Recover form) bytes text other scenes others takes has also same is
 answer-same (Paste prefix) bytes text other scenes others takes has also same is = absurd takes
 answer-same Library bytes text other scenes others takes has also same is = absurd takes
 answer-same (Insert insertion) bytes text other scenes others takes has also same is = absurd takes
+answer-same Check bytes text other scenes others takes has also same is = absurd takes
 
 pub states-stand_for : (command : ProgramCommand) (inputs states : List (List ℕ)) (text : List ℕ) → TakesScenes command
     → AreAnswers State inputs states

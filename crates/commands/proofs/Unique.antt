@@ -31,7 +31,8 @@ use Rattle.commands.specs.Pictures.IsToldOfPicture.{size, not_base64, no_data_ur
 use Rattle.commands.specs.declared.status.InputRefusal.{InputRefusal}
 use Rattle.commands.specs.declared.status.InputRefusal.TheVariants as refusal
 use Rattle.commands.specs.declared.words.ProgramCommand.{ProgramCommand}
-use Rattle.commands.specs.declared.words.ProgramCommand.TheVariants.{Restore, Merge, State, Pictures, Replay, Recover, Paste, Library, Insert}
+use Rattle.commands.specs.declared.words.ProgramCommand.TheVariants.{Restore, Merge, State, Pictures, Replay, Recover, Paste, Library, Insert, Check}
+use Rattle.commands.proofs.CheckedInputs.{check-once}
 use Rattle.commands.proofs.Reread.{scenes-whole, heads-whole, updates-elements}
 use Rattle.commands.proofs.JournalOnce.{recovered-once}
 use Rattle.commands.proofs.PasteOnce.{pasted-once}
@@ -190,6 +191,7 @@ answer-once (Recover form) bytes a b is also = recovered-once form bytes a b is 
 answer-once (Paste prefix) bytes a b is also = pasted-once prefix bytes a b is also
 answer-once Library bytes a b is also = shelf-once bytes a b is also
 answer-once (Insert insertion) bytes a b is also = inserted-once insertion bytes a b is also
+answer-once Check bytes a b is also = check-once (λ f g bytes. refusal-once bytes f g) bytes a b is also
 
 -- ---- convergence
 pub merges-converge : (layout : Layout) (bytes others text other_text : List ℕ) → HaveSameUpdatesAndHeads bytes others

@@ -4,7 +4,7 @@ use Rattle.std.specs.List.{concat}
 use Rattle.scene_file.specs.declared.layout.Layout.{Layout}
 use Rattle.commands.specs.Answers.{IsAnswer}
 use Rattle.commands.specs.declared.words.ProgramCommand.{ProgramCommand}
-use Rattle.commands.specs.declared.words.ProgramCommand.TheVariants.{Restore, Merge, State, Pictures, Replay, Recover, Paste, Library, Insert}
+use Rattle.commands.specs.declared.words.ProgramCommand.TheVariants.{Restore, Merge, State, Pictures, Replay, Recover, Paste, Library, Insert, Check}
 
 -- What was restored, in whatever layout, is restored to the texts that the input is restored to:
 -- nothing is restored twice.
@@ -30,6 +30,7 @@ TakesScenes (Recover form) = ⊥
 TakesScenes (Paste prefix) = ⊥
 TakesScenes Library = ⊥
 TakesScenes (Insert insertion) = ⊥
+TakesScenes Check = ⊥
 
 -- Each text is what the command answers the input at its place with.
 abbrev pub AreAnswers : ProgramCommand → List (List ℕ) → List (List ℕ) → Type 0

@@ -1,6 +1,8 @@
 -- What an input is answered with, command by command. This project's own; what is stored is
 -- Excalidraw's reconcile, and the texts are after its JSON schema.
-use Rattle.std.specs.Prelude.{◌≡◌, ◌⊎◌, ℕ, List, [], ◌∷◌, ◌++◌, Result, Ok, Err}
+use Rattle.std.specs.Prelude.{◌≡◌, ◌⊎◌, ℕ, List, [], ◌∷◌, ◌++◌, true, Result, Ok, Err}
+use Rattle.json_text.specs.Characters.{is_blank}
+use Rattle.checks.specs.Checks.{IsChecked}
 use Rattle.elem.specs.ElementValue.{ElementValue}
 use Rattle.elem_store.specs.Updates.{HaveSameUpdates}
 use Rattle.file_table.specs.References.{referred_files}
@@ -28,7 +30,7 @@ use Rattle.commands.specs.Shelves.{IsShelved, IsShelfRefusal, IsInserted, IsInse
 use Rattle.commands.specs.declared.status.InputRefusal.{InputRefusal}
 use Rattle.commands.specs.declared.status.InputRefusal.TheVariants as refusal
 use Rattle.commands.specs.declared.words.ProgramCommand.{ProgramCommand}
-use Rattle.commands.specs.declared.words.ProgramCommand.TheVariants.{Restore, Merge, State, Pictures, Replay, Recover, Paste, Library, Insert}
+use Rattle.commands.specs.declared.words.ProgramCommand.TheVariants.{Restore, Merge, State, Pictures, Replay, Recover, Paste, Library, Insert, Check}
 
 -- The text of the scene that the board of these scenes shows, and a newline. Its keys rise
 -- strictly, and its elements agree on their links, frames and groups.
@@ -68,6 +70,10 @@ abbrev pub IsRefusal : List ℕ → InputRefusal → Type 0
 IsRefusal bytes found =
     (number : ℕ) × (fault : SceneFault) × (found ≡ refusal.Text number fault)
     × HasFaultyText bytes number fault
+
+-- The input has no text, and is refused as scenes are.
+abbrev pub IsEmptyRefusal : List ℕ → InputRefusal → Type 0
+IsEmptyRefusal bytes found = (is_blank bytes ≡ true) × IsRefusal bytes found
 
 -- what a session's fault is told as
 abbrev pub session_refusal : SessionFault → InputRefusal
@@ -112,6 +118,8 @@ IsAnswer Library bytes (Ok text) = IsShelved bytes text
 IsAnswer Library bytes (Err found) = IsShelfRefusal bytes found
 IsAnswer (Insert insertion) bytes (Ok text) = IsInserted insertion bytes text
 IsAnswer (Insert insertion) bytes (Err found) = IsInsertRefusal insertion bytes found
+IsAnswer Check bytes (Ok text) = IsChecked bytes text
+IsAnswer Check bytes (Err found) = IsEmptyRefusal bytes found
 
 -- Two inputs are scenes with the same updates and the same heads, in whatever order, grouping and
 -- repetition.

@@ -48,7 +48,7 @@ abbrev pub line_of : Fault → List ℕ
 line_of fault.Memory = codes "board: out of memory" ++ newline
 line_of fault.Usage =
     codes
-    "board: usage: restore, merge, state, replay, pictures, drill SEED EVENTS, serve PORT LINKS IDLE, recover, paste PREFIX, library, insert ITEM PREFIX"
+    "board: usage: restore, merge, state, replay, pictures, drill SEED EVENTS, serve PORT LINKS IDLE, recover, paste PREFIX, library, insert ITEM PREFIX, check"
     ++ newline
 line_of fault.Read = codes "board: read fault" ++ newline
 line_of fault.TooLong = codes "board: input is longer than 67108864 bytes" ++ newline

@@ -5,7 +5,7 @@ use Rattle.scene_file.specs.declared.layout.Layout.{Layout}
 use Rattle.scene_file.specs.declared.layout.Layout.TheVariants.{Compact, Pretty}
 use Rattle.commands.specs.Services.{drill_of, keeping_of, number_within, service_of}
 use Rattle.commands.specs.declared.words.ProgramCommand.{ProgramCommand}
-use Rattle.commands.specs.declared.words.ProgramCommand.TheVariants.{Restore, Merge, State, Pictures, Replay, Recover, Paste, Library, Insert}
+use Rattle.commands.specs.declared.words.ProgramCommand.TheVariants.{Restore, Merge, State, Pictures, Replay, Recover, Paste, Library, Insert, Check}
 use Rattle.commands.specs.declared.words.Form.{Form}
 use Rattle.commands.specs.declared.words.Form.TheVariants as form
 use Rattle.commands.specs.declared.words.Request.{Request}
@@ -62,6 +62,7 @@ asked_plain word options =
     else if bytes_eq word (codes "replay") then asked_alone Replay options
     else if bytes_eq word (codes "recover") then option_map Recover (asked_form options)
     else if bytes_eq word (codes "library") then asked_alone Library options
+    else if bytes_eq word (codes "check") then asked_alone Check options
     else None
 
 -- the command of this name with these words behind it. This project's own.
@@ -133,6 +134,7 @@ words_of (Recover form.Scene) = codes "recover" ∷ codes "--scene" ∷ []
 words_of (Paste prefix) = codes "paste" ∷ prefix ∷ []
 words_of Library = codes "library" ∷ []
 words_of (Insert insertion) = codes "insert" ∷ insertion.item ∷ insertion.prefix ∷ []
+words_of Check = codes "check" ∷ []
 
 -- The texts that a command takes from its words may stand in them: each is UTF-8, and not empty.
 abbrev pub HasNames : ProgramCommand → Type 0

@@ -10,6 +10,7 @@ ghost use Rattle.commands.specs.Ends.{span, limit_of, IsRefusalOf, WasRead};
 ghost use Rattle.commands.specs.inner.Ends.{IsInputFault};
 ghost use Rattle.commands.specs.Faults.{newline};
 
+use crate::checking::checked_text;
 use crate::input::{one_scene, session, some_board, some_shelf, whole};
 use crate::pasting::pasted;
 use crate::pictures::picture_lines;
@@ -75,6 +76,10 @@ pub(crate) fn answer<S: Source>(
         ProgramCommand::Insert(insertion) => {
             let bytes = whole(alloc, input)?;
             Ok(inserted(alloc, bytes.as_slice(), &insertion)?)
+        }
+        ProgramCommand::Check => {
+            let bytes = whole(alloc, input)?;
+            Ok(checked_text(alloc, bytes.as_slice())?)
         }
     }
 }

@@ -3,6 +3,7 @@
 #![tactic(auto)]
 
 mod answer;
+mod checking;
 mod drilling;
 mod durable;
 mod front;

@@ -157,7 +157,7 @@ impl Fault {
         match self {
             Fault::Memory => line("board: out of memory\n"),
             Fault::Usage => line(
-                "board: usage: restore, merge, state, replay, pictures, drill SEED EVENTS, serve PORT LINKS IDLE, recover, paste PREFIX, library, insert ITEM PREFIX\n",
+                "board: usage: restore, merge, state, replay, pictures, drill SEED EVENTS, serve PORT LINKS IDLE, recover, paste PREFIX, library, insert ITEM PREFIX, check\n",
             ),
             Fault::Read => line("board: read fault\n"),
             Fault::TooLong => line("board: input is longer than 67108864 bytes\n"),

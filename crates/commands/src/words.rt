@@ -49,6 +49,8 @@ pub enum ProgramCommand {
     Library,
     /// To insert an item of a library into a scene.
     Insert(Insertion),
+    /// To tell all that is wrong with scenes, and all that restoring would change.
+    Check,
 }
 
 /// What of a library is to be inserted, and how.
@@ -167,6 +169,8 @@ fn asked_plain(word: &Bytes, options: &[Bytes]) -> Option<ProgramCommand>
         asked_form(options).map(ProgramCommand::Recover)
     } else if word == b"library".as_slice() {
         asked_alone(ProgramCommand::Library, options)
+    } else if word == b"check".as_slice() {
+        asked_alone(ProgramCommand::Check, options)
     } else {
         None
     }

@@ -1,6 +1,6 @@
 use Rattle.std.proofs.Common.{sym, ap, Err, subst, Ok, ℕ, List as Items}
 use Rattle.std.proofs.lemmas.Result.{err_from_is_err_and}
-use Rattle.commands.specs.Answers.{IsAnswer}
+use Rattle.commands.specs.Answers.{IsAnswer, IsEmptyRefusal}
 use Rattle.commands.specs.Ends.{span, limit, limit_of, WasRead}
 use Rattle.commands.specs.Pastes.{IsPasteRefusal}
 use Rattle.commands.specs.Shelves.{IsInsertRefusal}
@@ -25,6 +25,15 @@ returns-in_err-inserted-in-Insert-clause-fault g c =
     rw (p.1, p.2, c.in-Insert.is) (judged-fault limit (IsInsertRefusal c.in-Insert.insertion) input _
     c.in_ok-bytes-in-Insert.ensures.read c.in_err-inserted-in-Insert.field-0.0
     (λ why e. rw (← c.as_slice-in-Insert.ensures) (c.in_err-inserted-in-Insert.ensures.refused why (ap Err e))))
+
+pub returns-in_err-checked_text-in-Check-clause-fault : goal.returns-in_err-checked_text-in-Check-clause-fault
+returns-in_err-checked_text-in-Check-clause-fault g c =
+    let input = span (g.S.Source.seen c.args.input.now) (g.S.Source.seen c.whole-in-Check.new.input) in
+    let p = err_from_is_err_and c.from_residual-in_err-checked_text-in-Check.result
+    c.from_residual-in_err-checked_text-in-Check.ensures.1 in
+    rw (p.1, p.2, c.in-Check.is) (judged-fault limit IsEmptyRefusal input _
+    c.in_ok-bytes-in-Check.ensures.read c.in_err-checked_text-in-Check.field-0.0
+    (λ why e. rw (← c.as_slice-in-Check.ensures) (c.in_err-checked_text-in-Check.ensures.refused why (ap Err e))))
 
 pub returns-in_ok-recovered_text-in-Recover-clause-text : goal.returns-in_ok-recovered_text-in-Recover-clause-text
 returns-in_ok-recovered_text-in-Recover-clause-text g c =
