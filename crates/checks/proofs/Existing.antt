@@ -1,26 +1,25 @@
 -- Something is told of each input that has a text.
-use Rattle.std.proofs.Common.{◌≡◌, ◌≢◌, ◌⊎◌, inl, inr, ℕ, zero, suc, ◌+◌, ◌<◌, ◌≤◌, Bool, true, false, List, [], ◌∷◌, Option, Some, None, MatchBool, length, drop, length-drop, codes, lit≤, refl, sym, ap, subst, ◌∙◌, arith}
+use Rattle.std.proofs.Common.{◌≡◌, ◌≢◌, inl, inr, ℕ, zero, suc, ◌+◌, ◌≤◌, Bool, true, false, List, [], ◌∷◌, Option, Some, None, MatchBool, length, drop, length-drop, codes, lit≤, refl, sym, subst, arith}
 use Rattle.std.specs.List.{AllByRecursion}
 use Rattle.std.proofs.lemmas.Bool.{cases_Bool, both_ways}
 use Rattle.std.proofs.lemmas.List.{nil_from_length}
 use Rattle.json_text.specs.Characters.{is_blank}
 use Rattle.json_text.specs.Compact.{Member as Pair}
-use Rattle.json_text.specs.Members.{pairs}
 use Rattle.json_text.specs.Value.{Stands, IsCompact}
-use Rattle.json_text.proofs.CallerLemmas.{Stands-once, Value-compact, Value-deeper, object-or-not}
+use Rattle.json_text.proofs.CallerLemmas.{Stands-once, Value-deeper, object-or-not}
 use Rattle.json_reader.proofs.CallerLemmas.{value-or-fault}
 use Rattle.scene_json.specs.Named.{value_at}
 use Rattle.elem.specs.Forms.{IsObject, IsText}
 use Rattle.elem_read.proofs.CallerLemmas.{fits-in, pairs-unpaired, read-exists, text-or-not, unpaired}
 use Rattle.elem_store.proofs.CallerLemmas.{stored-exist}
 use Rattle.view.specs.Shown.{live_elements, shown}
-use Rattle.scene_file.specs.Reading.{value_unless_null, HasItems, IsSceneFault, IsSceneFaultAt, IsSceneOf}
+use Rattle.scene_file.specs.Reading.{value_unless_null, IsSceneFault, IsSceneFaultAt, IsSceneOf}
 use Rattle.scene_file.specs.declared.fault.SceneFault.{SceneFault}
 use Rattle.scene_file.specs.declared.fault.SceneFault.TheVariants as fault
 use Rattle.scene_file.proofs.CallerLemmas.{Stands-behind, items-compact, joined-exists, scene-or-fault}
 use Rattle.checks.specs.Checks.{IsBoardTold, IsChecked, IsTold}
 use Rattle.checks.specs.Lines.{are_scenes, board_lines, fault_lines, heads_of, kept_of, spots_of, updates_of}
-use Rattle.checks.specs.Reading.{is_broken, is_of_element, AreTexts, AreVerdicts, HasValues, HasVerdicts, IsIdIn, IsJudged, IsTextAt, IsVerdict}
+use Rattle.checks.specs.Reading.{is_broken, is_of_element, AreTexts, AreVerdicts, HasValues, HasVerdicts, IsIdIn, IsJudged, IsVerdict}
 use Rattle.checks.specs.declared.judged.Judged.{Judged}
 use Rattle.checks.specs.declared.judged.Judged.TheVariants.{Whole, Flawed, Broken}
 use Rattle.checks.specs.declared.judged.Verdict.{Verdict}

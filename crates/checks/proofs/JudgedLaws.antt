@@ -1,12 +1,10 @@
 -- Texts and values that are read.
-use Rattle.std.proofs.Common.{◌≡◌, ℕ, suc, ◌+◌, ◌<◌, Bool, true, false, List, [], ◌∷◌, ◌++◌, Option, Some, None, MatchOption, length, take, get_or, length-take, codes, refl, sym, ap, subst, ◌∙◌, arith}
+use Rattle.std.proofs.Common.{◌≡◌, ℕ, suc, ◌+◌, ◌<◌, true, List, [], ◌∷◌, ◌++◌, Option, Some, None, MatchOption, length, take, get_or, length-take, codes, sym, subst, ◌∙◌, arith}
 use Rattle.std.proofs.lemmas.Bool.{false≢true}
 use Rattle.json_text.specs.Compact.{Member as Pair}
 use Rattle.json_text.proofs.CallerLemmas.{taken-next}
-use Rattle.elem.specs.ElementValue.{ElementValue}
 use Rattle.elem.specs.Forms.{IsObject}
 use Rattle.elem.proofs.CallerLemmas.{object-once}
-use Rattle.elem_read.specs.Reading.{IsElementIn}
 use Rattle.scene_file.specs.Reading.{value_unless_null, HasItems, IsSceneOf, IsSceneFault}
 use Rattle.scene_file.specs.declared.scene.Scene.{Scene}
 use Rattle.scene_file.specs.declared.fault.SceneFault.{SceneFault}

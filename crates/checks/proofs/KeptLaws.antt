@@ -1,10 +1,10 @@
 -- Which elements are kept, after one element more.
-use Rattle.std.proofs.Common.{◌≡◌, ℕ, zero, suc, ◌+◌, Bool, true, false, cond, ◌&&◌, not, List, [], ◌∷◌, ◌++◌, Option, Some, None, is_some, length, bytes_eq, nat_cmp, refl, sym, ap, subst, ◌∙◌, add-zero, arith}
+use Rattle.std.proofs.Common.{◌≡◌, ℕ, suc, ◌+◌, Bool, true, false, cond, List, [], ◌∷◌, ◌++◌, Option, Some, None, is_some, length, bytes_eq, nat_cmp, refl, sym, ap, subst, ◌∙◌, add-zero, arith}
 use Rattle.std.specs.BTreeMap.{BTreeMap, get, Updates}
 use Rattle.std.specs.Cmp.Lexicographic.{slice_cmp, nat_list_eq_equiv, texts_ties}
 use Rattle.std.specs.List.{position_from}
-use Rattle.std.proofs.lemmas.Bool.{cases_Bool, false≢true}
-use Rattle.json_text.proofs.CallerLemmas.{bytes_eq-true, bytes_eq-same}
+use Rattle.std.proofs.lemmas.Bool.{false≢true}
+use Rattle.json_text.proofs.CallerLemmas.{bytes_eq-true}
 use Rattle.elem.specs.ElementValue.{ElementValue}
 use Rattle.checks.specs.Lines.{is_kept, kept_of}
 use Rattle.checks.specs.inner.Kept.{AreKept}

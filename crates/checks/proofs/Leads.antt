@@ -1,6 +1,5 @@
 -- Texts that lead to others.
-use Rattle.std.proofs.Common.{◌≡◌, ℕ, ◌+◌, List, [], ◌∷◌, ◌++◌, Option, Some, None, length, refl, sym, ap, subst, ◌∙◌, append_assoc, append-nil, length-append, arith}
-use Rattle.json_text.specs.Characters.{is_blank}
+use Rattle.std.proofs.Common.{◌≡◌, ℕ, ◌+◌, List, [], ◌∷◌, ◌++◌, Option, Some, None, length, refl, sym, ap, subst, ◌∙◌, append_assoc, append-nil, length-append}
 use Rattle.checks.specs.Reading.{AreTexts}
 use Rattle.checks.specs.inner.Behind.{AreBehind}
 use Rattle.checks.specs.declared.judged.Judged.{Judged}

@@ -1,12 +1,10 @@
 -- What is read of an input, and what is told of it, are one thing alone.
-use Rattle.std.proofs.Common.{◌≡◌, ◌⊎◌, inl, inr, ℕ, ◌+◌, Bool, true, false, List, [], ◌∷◌, Option, Some, None, MatchBool, length, drop, codes, refl, sym, ap, ap₂, subst, ◌∙◌}
-use Rattle.std.proofs.lemmas.Bool.{both_ways, false≢true}
+use Rattle.std.proofs.Common.{◌≡◌, inl, inr, ℕ, ◌+◌, Bool, true, false, List, [], ◌∷◌, Option, Some, None, MatchBool, length, drop, codes, refl, sym, ap, ap₂, subst, ◌∙◌}
+use Rattle.std.proofs.lemmas.Bool.{both_ways}
 use Rattle.json_text.specs.Characters.{is_blank}
-use Rattle.json_text.specs.Compact.{Member as Pair}
 use Rattle.json_text.specs.Members.{pairs}
 use Rattle.json_text.specs.Value.{Stands}
 use Rattle.json_text.proofs.CallerLemmas.{Stands-once, drop-once}
-use Rattle.json_reader.specs.declared.fault.JsonFault.{JsonFault}
 use Rattle.scene_json.specs.Named.{value_at}
 use Rattle.elem.specs.ElementValue.{ElementValue}
 use Rattle.elem.specs.Forms.{IsText}
@@ -16,13 +14,13 @@ use Rattle.elem_read.proofs.CallerLemmas.{element-faultless, element-kept, fault
 use Rattle.elem_store.proofs.CallerLemmas.{store-unique}
 use Rattle.view.specs.Shown.{live_elements, shown}
 use Rattle.scene_file.specs.Heads.{Heading}
-use Rattle.scene_file.specs.Reading.{value_unless_null, HasItems, IsSceneAt, IsSceneFaultAt}
+use Rattle.scene_file.specs.Reading.{value_unless_null, HasItems, IsSceneAt}
 use Rattle.scene_file.specs.declared.fault.SceneFault.{SceneFault}
 use Rattle.scene_file.specs.declared.fault.SceneFault.TheVariants as fault
 use Rattle.scene_file.proofs.CallerLemmas.{fault-at, fault-none, fault-once, head-once, items-once, scene-once}
 use Rattle.checks.specs.Checks.{IsBoardTold, IsChecked, IsTold}
 use Rattle.checks.specs.Lines.{are_scenes, board_lines, fault_lines, kept_of, spots_of, updates_of}
-use Rattle.checks.specs.Reading.{is_broken, is_of_element, AreTexts, AreVerdicts, HasValues, HasVerdicts, IsIdIn, IsJudged, IsNoValue, IsTextAt, IsVerdict}
+use Rattle.checks.specs.Reading.{is_broken, is_of_element, AreTexts, AreVerdicts, HasValues, HasVerdicts, IsIdIn, IsJudged, IsNoValue, IsVerdict}
 use Rattle.checks.specs.declared.judged.Judged.{Judged}
 use Rattle.checks.specs.declared.judged.Judged.TheVariants.{Whole, Flawed, Broken}
 use Rattle.checks.specs.declared.judged.Verdict.{Verdict}

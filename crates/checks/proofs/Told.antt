@@ -1,5 +1,5 @@
 -- What is told of boards and inputs, put together.
-use Rattle.std.proofs.Common.{◌≡◌, ℕ, ◌==◌, Bool, true, false, List, [], ◌∷◌, ◌++◌, Option, MatchBool, length, codes, refl, sym, ap, subst, ◌∙◌, arith}
+use Rattle.std.proofs.Common.{◌≡◌, ℕ, true, false, List, [], ◌∷◌, ◌++◌, Option, length, codes, refl, ap, ◌∙◌, arith}
 use Rattle.json_text.specs.Characters.{is_blank}
 use Rattle.json_text.specs.Compact.{Member as Pair}
 use Rattle.elem.specs.ElementValue.{ElementValue}

@@ -39,4 +39,5 @@ pub mod ShelfExists
 pub mod ShelfOnce
 pub mod Shows
 pub mod States
+pub mod ToldFirst
 pub mod Unique

@@ -1,6 +1,7 @@
 pub mod Again
 pub mod Answers
 pub mod Boards
+pub mod Checked
 pub mod Closing
 pub mod Drills
 pub mod Ends

@@ -1,6 +1,6 @@
 //! Laws on what inputs are answered with, for all inputs. They do nothing when they run.
 
-ghost use Rattle.std.specs.Prelude.{◌≡◌, ◌↔◌, ℕ, List, [], ◌∷◌, ◌++◌, Result, Ok, Some};
+ghost use Rattle.std.specs.Prelude.{◌≡◌, ◌↔◌, ℕ, List, [], ◌∷◌, ◌++◌, Result, Ok, Err, Some};
 ghost use Rattle.elem.specs.ElementValue.{ElementValue};
 ghost use Rattle.elem_store.specs.Updates.{AreBest};
 ghost use Rattle.library.specs.Libraries.{HaveItems};
@@ -9,9 +9,11 @@ ghost use Rattle.scene_file.specs.Heads.{Heading, IsJoinedHead};
 ghost use Rattle.scene_file.specs.Texts.{IsSceneText};
 ghost use Rattle.scene_file.specs.declared.layout.Layout.{Layout};
 ghost use Rattle.scene_file.specs.declared.scene.Scene.{Scene};
+ghost use Rattle.scene_file.specs.declared.fault.SceneFault.{SceneFault};
 ghost use Rattle.commands.specs.Again.{TakesScenes};
 ghost use Rattle.commands.specs.Answers.{IsAnswer};
 ghost use Rattle.commands.specs.Boards.{heads_of, updates_of, shown_of};
+ghost use Rattle.commands.specs.Checked.{BeginsWithFault, IsBoardChecked};
 ghost use Rattle.commands.specs.Drills.{IsDrilled};
 ghost use Rattle.commands.specs.Faults.{newline};
 ghost use Rattle.commands.specs.Input.{HasScenes};
@@ -74,6 +76,17 @@ pub fn merge_is_of_the_best()
         → IsAnswer (ProgramCommand.Merge layout) bytes (Ok text)
         → (written : List ℕ) × IsSceneText layout head (shown_of chosen) written
         × (text ≡ written ++ newline) }
+{}
+
+/// `check` tells the fault first that a merge is refused for. What a merge answers it tells the
+/// board of, and nothing else.
+pub fn checks_agree_with_merges()
+    ensures fault { (layout : Layout) (bytes text : List ℕ) (number : ℕ) (fault : SceneFault)
+        → IsAnswer (ProgramCommand.Merge layout) bytes (Err (InputRefusal.Text number fault))
+        → IsAnswer ProgramCommand.Check bytes (Ok text) → BeginsWithFault number fault text }
+    ensures board { (layout : Layout) (bytes merged text : List ℕ)
+        → IsAnswer (ProgramCommand.Merge layout) bytes (Ok merged)
+        → IsAnswer ProgramCommand.Check bytes (Ok text) → IsBoardChecked bytes text }
 {}
 
 /// Each drill within its limits tells a text, and one text alone.

@@ -1,15 +1,14 @@
-use Rattle.std.proofs.Common.{◌≡◌, ◌++◌, List, length, nat_cmp, ap, sym, subst, ◌∙◌}
+use Rattle.std.proofs.Common.{length, nat_cmp, ap, sym, subst, ◌∙◌}
 use Rattle.std.specs.BTreeMap.{get}
 use Rattle.std.specs.Cmp.Lexicographic.{slice_cmp}
 use Rattle.std.proofs.lemmas.List.Elements.{All-filter}
-use Rattle.json_text.specs.Members.{pairs}
 use Rattle.elem.specs.ElementValue.{ElementValue}
 use Rattle.elem.specs.Facts.{IsElement}
 use Rattle.elem.specs.Said.{AreElements, HasValidTexts}
 use Rattle.elem_store.specs.Updates.{AreStored}
 use Rattle.view.specs.Shown.{is_live, live_elements, shown}
 use Rattle.scene_file.specs.Heads.{Heading}
-use Rattle.checks.specs.Lines.{board_lines, kept_of, spots_of, updates_of}
+use Rattle.checks.specs.Lines.{kept_of, spots_of, updates_of}
 use Rattle.checks.proofs.Told.{behind-none, told-same}
 use Rattle.checks.proofs.board.board_told.Goals as goal
 

@@ -1,4 +1,4 @@
-use Rattle.std.proofs.Common.{◌≡◌, None, ap, sym, ◌∙◌, lit≤}
+use Rattle.std.proofs.Common.{sym, ◌∙◌, lit≤}
 use Rattle.std.proofs.lemmas.Option.{MatchOption-at_some, MatchOption-at_none}
 use Rattle.json_text.specs.Members.{pairs}
 use Rattle.elem.specs.Texts.{element_members}

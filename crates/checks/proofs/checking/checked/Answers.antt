@@ -1,7 +1,6 @@
 use Rattle.std.proofs.Common.{◌≡◌, ◌==◌, true, length, ap, sym, ◌∙◌, arith}
 use Rattle.std.proofs.lemmas.Bool.Decides.{nat_tests}
 use Rattle.board_base.specs.declared.stop.Stop.TheVariants as stop
-use Rattle.checks.specs.declared.judged.Judged.{Judged}
 use Rattle.checks.proofs.Told.{none-read}
 use Rattle.checks.proofs.checking.checked.Goals as goal
 

@@ -1,4 +1,4 @@
-use Rattle.std.proofs.Common.{◌≡◌, Some, None, ap, sym, ◌∙◌}
+use Rattle.std.proofs.Common.{◌≡◌, Some, ap, sym, ◌∙◌}
 use Rattle.elem.specs.ElementValue.{ElementValue}
 use Rattle.checks.proofs.Named.{named-none, named-some}
 use Rattle.checks.proofs.files.add_name.Goals as goal

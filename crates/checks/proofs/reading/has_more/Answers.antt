@@ -1,6 +1,6 @@
-use Rattle.std.proofs.Common.{◌≡◌, ◌+◌, ◌<◌, ◌≤◌, inl, inr, not, nat_lt, drop, length, length-drop, true, false, ap, sym, ◌∙◌, refl, arith}
+use Rattle.std.proofs.Common.{inl, inr, drop, length-drop, arith}
 use Rattle.std.proofs.lemmas.Bool.Decides.{nat_tests}
-use Rattle.json_text.specs.Characters.{is_blank, is_space}
+use Rattle.json_text.specs.Characters.{is_space}
 use Rattle.json_text.proofs.CallerLemmas.{Runs-either}
 use Rattle.checks.proofs.reading.has_more.Goals as goal
 

@@ -1,4 +1,4 @@
-use Rattle.std.proofs.Common.{◌≡◌, ◌+◌, ◌<◌, inl, inr, Bool, true, false, List, [], ◌∷◌, Option, Some, None, MatchBool, ℕ, Err, refl, ap, sym, subst, ◌∙◌}
+use Rattle.std.proofs.Common.{◌≡◌, ◌+◌, inl, inr, true, false, List, [], Option, Some, None, MatchBool, ℕ, Err, ap, sym, subst, ◌∙◌}
 use Rattle.scene_file.proofs.CallerLemmas.{Stands-behind}
 use Rattle.checks.specs.Reading.{is_broken, AreTexts}
 use Rattle.checks.specs.inner.Behind.{AreBehind}
