@@ -1,0 +1,3 @@
+pub mod Boards
+pub mod Tables
+pub mod Memory
