@@ -114,7 +114,8 @@ impl MemTables {
             self.faults = self.faults.saturating_add(1);
             return false;
         }
-        self.committed = self.writes.len();
+        let all = self.writes.len();
+        self.committed = all;
         true
     }
 
