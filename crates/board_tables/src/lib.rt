@@ -7,6 +7,8 @@ pub mod laws;
 mod memory;
 mod rows;
 mod tables;
+#[cfg(test)]
+mod tests;
 mod writes;
 
 pub use board::Board;
